@@ -1,0 +1,4 @@
+pub mod Positions
+pub mod Tables
+pub mod Questions
+pub mod Filled

@@ -1,0 +1,3 @@
+pub mod Pulled
+pub mod Takes
+pub mod Lines

@@ -1,0 +1,4 @@
+pub mod Queue
+pub mod Sequential
+pub mod Places
+pub mod Law
