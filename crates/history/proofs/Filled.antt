@@ -5,7 +5,8 @@ use Prim.Native.Nat.{ℕ, min, zero, _+_, _-_, _<_, _≤_}
 use native.Mathlib.Omega.{arith}
 use mathlib.Core.Logic.{⊎-elim}
 use lib.ListN.{length, drop, set, replicate}
-use Rattle.std.proofs.shelf.Lists.{append-assoc, length-replicate, set-append-right, drop-more, drop-all, replicate-more}
+use Rattle.std.proofs.shelf.Lists.{append-assoc, length-append, length-drop, length-replicate, set-append-right, drop-more, drop-all, replicate-more}
+use Rattle.std.proofs.shelf.Parts.{drop-append-drop}
 use Rattle.std.proofs.shelf.Tests.{cases-lt}
 use Rattle.history.specs.Limits.{cleared, most}
 
@@ -26,3 +27,10 @@ filled-all d n v e =
     (λ (l : most < length d). ap (λ i. drop i d) (let q : n ≡ most = omega arith in q))
     (λ (l : length d ≤ most). drop-all n d (omega arith) ∙ sym (drop-all most d l))
     (cases-lt most (length d)))
+
+-- clearing a table whose rows in use were written to
+pub cleared-front : {A : Type 0} (z : A) (d ys : List A) (n : ℕ) → n ≡ min (length d) most → length ys ≡ n → cleared z (ys ++ drop n d) ≡ cleared z d
+cleared-front z d ys n e l =
+    let long : length (ys ++ drop n d) ≡ length d = omega (arith, length-append ys (drop n d), length-drop n d) in
+    ap (λ m. replicate (min m most) z ++ drop most (ys ++ drop n d)) long
+    ∙ ap (λ xs. replicate (min (length d) most) z ++ xs) (drop-append-drop n d ys most (omega arith) l)

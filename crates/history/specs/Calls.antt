@@ -1,7 +1,8 @@
 -- Calls: a thread's call is in flight from its begin to its answer.
-use mathlib.Core.Bool.{Bool, cond, _||_}
+use mathlib.Core.Path.{_≡_}
+use mathlib.Core.Bool.{Bool, true, cond, _||_}
 use mathlib.Core.List.{List}
-use Prim.Native.Nat.{ℕ, _-_}
+use Prim.Native.Nat.{ℕ, _-_, _≤_}
 use lib.Dec.{eqb}
 use Rattle.history.specs.Positions.{last-below, count-below}
 use Rattle.history.specs.Events.{kind-at, thread-at, is}
@@ -22,6 +23,10 @@ last-kind h t i = cond (eqb (last-event h t i) 0) 0 (kind-at h (last-event h t i
 -- a call of the thread t is in flight before event i: the thread's last event is a begin
 abbrev pub in-flight : List Event → ℕ → ℕ → Bool
 in-flight h t i = eqb (last-kind h t i) 1 || eqb (last-kind h t i) 2
+
+-- up to event i no two calls were in flight together
+abbrev pub Apart : List Event → ℕ → Type 0
+Apart h i = (j t u : ℕ) → j ≤ i → in-flight h t j ≡ true → in-flight h u j ≡ true → t ≡ u
 
 -- the puts begun before event i
 abbrev pub puts-before : List Event → ℕ → ℕ

@@ -16,11 +16,11 @@ use Rattle.window.specs.Law.{Stands, Follows-specification}
 use Rattle.window.proofs.Takes.{taken-at, allowed-from}
 
 module _ {E : Type 0} where
-  same-queue : (s t : Queue E) → s .q ≡ t .q → s .w ≡ t .w → s ≡ t
+  pub same-queue : (s t : Queue E) → s .q ≡ t .q → s .w ≡ t .w → s ≡ t
   same-queue s t a b = ap (λ l. record { q = l; w = s .w }) a ∙ ap (λ v. record { q = t .q; w = v }) b
 
   -- a list around one of its places
-  around : (xs : List E) (i : ℕ) (x : E) → i < length xs → x ≡ getD xs i x → xs ≡ take i xs ++ x ∷ drop (i + 1) xs
+  pub around : (xs : List E) (i : ℕ) (x : E) → i < length xs → x ≡ getD xs i x → xs ≡ take i xs ++ x ∷ drop (i + 1) xs
   around xs i x lt e = sym (take-append-drop i xs) ∙ (ap (λ l. take i xs ++ l) (drop-more xs i x lt) ∙ ap (λ y. take i xs ++ y ∷ drop (i + 1) xs) (sym e))
 
   -- a list without the place behind its first part
