@@ -1,3 +1,4 @@
 pub mod LineLaws
 pub mod Parts
 pub mod Values
+pub mod Headers

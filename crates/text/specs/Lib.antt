@@ -1,4 +1,5 @@
 pub mod Cut
+pub mod Header
 pub mod Lines
 pub mod Numeral
 pub mod Reading

@@ -1,0 +1,6 @@
+pub mod Cuts
+pub mod Words
+pub mod SoFar
+pub mod Inputs
+pub mod Reports
+pub mod Printing

@@ -1,0 +1,4 @@
+pub mod Format
+pub mod Input
+pub mod Report
+pub mod Printed

@@ -1,0 +1,67 @@
+// What is reported of a stored history.
+ghost use mathlib.Core.Path.{_≡_};
+ghost use lib.ListN.{length};
+ghost use Rattle.stored.specs.Report.{ShapeAsked, ReplayGiven, Reported};
+use super::fault::Fault;
+use super::fault::FaultFromAlloc;
+use super::fault::FaultFromRefusal;
+use super::read::read;
+use history::event::Event;
+use history::refusal::Refusal;
+use history::rows::MOST;
+use replay::outcome::Outcome;
+use replay::replay::replay;
+use std::alloc::Global;
+
+// Stops names the first event that the window queue does not allow, counted from 0.
+#[derive(Clone, Copy)]
+pub enum Replay {
+    Whole,
+    Stops(usize),
+    Overlap,
+}
+
+#[derive(Clone, Copy)]
+pub struct Report {
+    pub events: usize,
+    pub replay: Replay,
+}
+
+// Whether segments have 1 to 64 slots, and there are 2 to 64 of them.
+fn ask_shape(k: u32, segments: u32) -> Result<(), Refusal>
+    ensures { λ r. ⌜ ShapeAsked k segments r ⌝ }
+{
+    if k < 1 || k > 64 {
+        return Err(Refusal::SegmentSize);
+    }
+    if segments < 2 || segments > 64 {
+        return Err(Refusal::Segments);
+    }
+    Ok(())
+}
+
+// The replay of a history; calls that overlap are an answer here.
+fn replayed(history: &[Event], k: u32, rows: &mut [u32]) -> Result<Replay, Refusal>
+    ensures { λ r. ⌜ ReplayGiven k (now (history .entry)) (length (now (rows .entry))) r ⌝ }
+{
+    match replay(history, k, rows) {
+        Ok(Outcome::Whole) => Ok(Replay::Whole),
+        Ok(Outcome::Stops(event)) => Ok(Replay::Stops(event)),
+        Err(Refusal::Overlap) => Ok(Replay::Overlap),
+        Err(refusal) => Err(refusal),
+    }
+}
+
+// The report of the stored history that the input writes.
+pub fn reported(heap: Global, input: &[u8]) -> Result<Report, Fault>
+    ensures { λ r. ⌜ Reported (now (input .entry)) r ⌝ }
+{
+    let stored = read(heap, input)?;
+    ask_shape(stored.k, stored.segments)?;
+    let mut rows = vec![in heap; 0u32; MOST]?;
+    let replay = replayed(&stored.events, stored.k, &mut rows)?;
+    Ok(Report {
+        events: stored.events.len(),
+        replay,
+    })
+}
