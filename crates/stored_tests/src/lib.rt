@@ -1,0 +1,3 @@
+// Inputs with the text that is printed of them.
+#[cfg(test)]
+mod tests;

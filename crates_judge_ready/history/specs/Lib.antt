@@ -1,0 +1,11 @@
+pub mod Positions
+pub mod Events
+pub mod Calls
+pub mod WellFormed
+pub mod Tables
+pub mod Items
+pub mod Flights
+pub mod Faults
+pub mod Limits
+pub mod Questions
+pub mod Refusals

@@ -1,0 +1,12 @@
+pub mod Rows
+pub mod Held
+pub mod Known
+pub mod Others
+pub mod Fulls
+pub mod Empties
+pub mod Counting
+pub mod Walks
+pub mod Fresh
+pub mod HandOut
+pub mod Decide
+pub mod Unique

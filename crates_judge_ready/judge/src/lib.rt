@@ -1,0 +1,10 @@
+// The judge of a history: the first event at which the queue broke its promise, with the lowest fault that it shows.
+mod answers;
+mod flights;
+pub mod judge;
+pub mod row;
+mod seen;
+mod step;
+pub mod theorems;
+pub mod verdict;
+mod walk;
