@@ -10,8 +10,9 @@ use Rattle.std.proofs.shelf.Lists.{append-cancel-left}
 use Rattle.history.specs.declared.event.Kind.{Kind}
 use Rattle.history.specs.declared.event.Kind.the-variants.{PutBegun, TakeBegun, Accepted, Full, HandedOut, Empty}
 use Rattle.history.specs.declared.event.Event.{Event}
-use Rattle.std.specs.declared.option.Option.{Option}
-use Rattle.std.specs.declared.option.Option.the-variants.{Some, None}
+use Rattle.std.specs.declared.result.Result.{Result}
+use Rattle.std.specs.declared.result.Result.the-variants.{Ok, Err}
+use Rattle.text.specs.declared.line.BadLine.{BadLine}
 use Rattle.stored.specs.Format.{word, Numbers, NumbersRead, Writes}
 
 -- the kind by the first letter of its word
@@ -32,18 +33,18 @@ one-word j k a b e =
     (same, append-cancel-left (word j) a b (e ∙ ap (λ (i : Kind). word i ++ b) (sym same)))
 
 -- takes and empty answers are written alike
-read-as-take : (bs : List ℕ) (r : Option (ℕ × ℕ)) → NumbersRead Empty bs r → NumbersRead TakeBegun bs r
-read-as-take bs (Some p) n = n
-read-as-take bs None n = n
+read-as-take : (bs : List ℕ) (line : ℕ) (r : Result (ℕ × ℕ) BadLine) → NumbersRead Empty bs line r → NumbersRead TakeBegun bs line r
+read-as-take bs line (Ok p) n = n
+read-as-take bs line (Err bad) n = n
 
-pub read-alone : (bs : List ℕ) (r : Option (ℕ × ℕ)) (k : Kind) → (k ≡ TakeBegun) ⊎ (k ≡ Empty) → NumbersRead Empty bs r → NumbersRead k bs r
-read-alone bs r k e n = ⊎-elim
-    (λ (q : k ≡ TakeBegun). subst (λ (i : Kind). NumbersRead i bs r) (sym q) (read-as-take bs r n))
-    (λ (q : k ≡ Empty). subst (λ (i : Kind). NumbersRead i bs r) (sym q) n)
+pub read-alone : (bs : List ℕ) (line : ℕ) (r : Result (ℕ × ℕ) BadLine) (k : Kind) → (k ≡ TakeBegun) ⊎ (k ≡ Empty) → NumbersRead Empty bs line r → NumbersRead k bs line r
+read-alone bs line r k e n = ⊎-elim
+    (λ (q : k ≡ TakeBegun). subst (λ (i : Kind). NumbersRead i bs line r) (sym q) (read-as-take bs line r n))
+    (λ (q : k ≡ Empty). subst (λ (i : Kind). NumbersRead i bs line r) (sym q) n)
     e
 
 -- a line of this kind whose numbers cannot be read writes no event
-pub no-event : (bs : List ℕ) (k : Kind) (rest : List ℕ) → bs ≡ word k ++ rest → NumbersRead k rest None → (e : Event) → Writes bs e → ⊥
+pub no-event : (bs : List ℕ) (k : Kind) (rest : List ℕ) → bs ≡ word k ++ rest → ((t x : ℕ) → Numbers k rest t x → ⊥) → (e : Event) → Writes bs e → ⊥
 no-event bs k rest is-line none e w =
     let same = one-word (e .kind) k (w .0) rest (sym (w .1 .0) ∙ is-line) in
     none (e .thread) (e .item)

@@ -56,9 +56,9 @@ abbrev pub KeyOf : List ℕ → Option (Kind × RefT (List ℕ)) → Type 0
 KeyOf bs (Some p) = bs ≡ word (p .0) ++ p .1 .now
 KeyOf bs None = (k : Kind) (rest : List ℕ) → bs ≡ word k ++ rest → ⊥
 
-abbrev pub NumbersRead : Kind → List ℕ → Option (ℕ × ℕ) → Type 0
-NumbersRead k bs (Some p) = Numbers k bs (p .0) (p .1)
-NumbersRead k bs None = (t x : ℕ) → Numbers k bs t x → ⊥
+abbrev pub NumbersRead : Kind → List ℕ → ℕ → Result (ℕ × ℕ) BadLine → Type 0
+NumbersRead k bs line (Ok p) = Numbers k bs (p .0) (p .1)
+NumbersRead k bs line (Err bad) = ((t x : ℕ) → Numbers k bs t x → ⊥) × (bad ≡ refusal line Unreadable)
 
 abbrev pub EventRead : List ℕ → ℕ → Result Event BadLine → Type 0
 EventRead bs line (Ok e) = Writes bs e

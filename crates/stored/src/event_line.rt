@@ -33,38 +33,38 @@ fn kind_of<'a>(line: &Line<'a>) -> Option<(Kind, &'a [u8])>
 }
 
 // A thread and an item, with a colon between them.
-fn pair(bytes: &[u8]) -> Option<(u32, u32)>
-    ensures { λ r. ⌜ NumbersRead Kind.PutBegun (now (bytes .entry)) r ⌝ }
+fn pair(line: &Line, bytes: &[u8]) -> Result<(u32, u32), BadLine>
+    ensures { λ r. ⌜ NumbersRead Kind.PutBegun (now (bytes .entry)) (now (line .entry) .number) r ⌝ }
 {
     let Some((before, behind)) = split_at_byte(bytes, b':') else {
-        return None;
+        return Err(line.unreadable());
     };
     let Some(thread) = number(before) else {
-        return None;
+        return Err(line.unreadable());
     };
     let Some(item) = number(behind) else {
-        return None;
+        return Err(line.unreadable());
     };
-    Some((thread, item))
+    Ok((thread, item))
 }
 
 // A thread alone; the item is 0.
-fn alone(bytes: &[u8]) -> Option<(u32, u32)>
-    ensures { λ r. ⌜ NumbersRead Kind.Empty (now (bytes .entry)) r ⌝ }
+fn alone(line: &Line, bytes: &[u8]) -> Result<(u32, u32), BadLine>
+    ensures { λ r. ⌜ NumbersRead Kind.Empty (now (bytes .entry)) (now (line .entry) .number) r ⌝ }
 {
     let Some(thread) = number(bytes) else {
-        return None;
+        return Err(line.unreadable());
     };
-    Some((thread, 0))
+    Ok((thread, 0))
 }
 
 // The thread and the item behind the word of a kind.
-fn numbers(kind: Kind, bytes: &[u8]) -> Option<(u32, u32)>
-    ensures { λ r. ⌜ NumbersRead kind (now (bytes .entry)) r ⌝ }
+fn numbers(line: &Line, kind: Kind, bytes: &[u8]) -> Result<(u32, u32), BadLine>
+    ensures { λ r. ⌜ NumbersRead kind (now (bytes .entry)) (now (line .entry) .number) r ⌝ }
 {
     match kind {
-        Kind::TakeBegun | Kind::Empty => alone(bytes),
-        Kind::PutBegun | Kind::Accepted | Kind::Full | Kind::HandedOut => pair(bytes),
+        Kind::TakeBegun | Kind::Empty => alone(line, bytes),
+        Kind::PutBegun | Kind::Accepted | Kind::Full | Kind::HandedOut => pair(line, bytes),
     }
 }
 
@@ -75,8 +75,6 @@ pub fn event(line: &Line) -> Result<Event, BadLine>
     let Some((kind, rest)) = kind_of(line) else {
         return Err(line.unreadable());
     };
-    let Some((thread, item)) = numbers(kind, rest) else {
-        return Err(line.unreadable());
-    };
+    let (thread, item) = numbers(line, kind, rest)?;
     Ok(Event { kind, thread, item })
 }

@@ -3,11 +3,13 @@ ghost use Prim.Native.Nat.{_-_};
 ghost use mathlib.Core.Path.{_≡_};
 ghost use mathlib.Core.Bool.{cond};
 ghost use lib.Dec.{leb};
-ghost use lib.ListN.{length, take};
+ghost use lib.ListN.{length};
 ghost use Rattle.window.specs.Places.{content, queue, Made, Appended, Taken, Found};
 ghost use Rattle.window.specs.Law.{Follows-specification};
 use super::limit::WindowLimit;
-use super::pull::pull;
+use super::places::element_at;
+use super::places::pull;
+use super::places::put_at;
 use super::refusal::Refusal;
 
 // The first `len` places hold the elements, oldest first; the others are unused. The window, from 1 to k, is how far from the front a take may reach now.
@@ -17,17 +19,6 @@ pub struct WindowQueue<'a, E: Copy> {
     len: usize,
     window: u32,
     k: u32,
-}
-
-// The element at place `i` of the first `len`, counted from 1; nothing outside them.
-fn element_at<E: Copy>(places: &[E], len: usize, i: usize) -> Option<E>
-    ensures { λ r. ⌜ Found i (take len (now (places .entry))) r ⌝ }
-{
-    let used = len.min(places.len());
-    if i < 1 || i > used {
-        return None;
-    }
-    Some(places[i - 1])
 }
 
 // The window after a take at place `i`.
@@ -56,11 +47,11 @@ impl<'a, E: Copy> WindowQueue<'a, E> {
     pub fn append(&mut self, x: E) -> Result<(), Refusal>
         ensures { λ r. ⌜ Appended (content (now (self .entry))) x r (content (now (self .exit))) ⌝ }
     {
-        if self.len >= self.places.len() {
+        let at = self.len;
+        if !put_at(self.places, at, x) {
             return Err(Refusal::NoPlace);
         }
-        self.places[self.len] = x;
-        self.len += 1;
+        self.len = at + 1;
         Ok(())
     }
 

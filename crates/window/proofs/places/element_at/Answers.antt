@@ -4,7 +4,7 @@ use mathlib.Core.Logic.{⊎-elim}
 use native.Mathlib.Omega.{arith}
 use Rattle.std.proofs.shelf.Lists.{length-take}
 use Rattle.window.proofs.Takes.{front-element}
-use Rattle.window.proofs.queue.element_at.Needs as need
+use Rattle.window.proofs.places.element_at.Needs as need
 
 pub returns-then-i-lt1 : need.returns-then-i-lt1
 returns-then-i-lt1 g c =

@@ -1,7 +1,7 @@
 use mathlib.Core.Path.{_≡_, refl, subst}
 use native.Mathlib.Omega.{arith}
 use Rattle.window.proofs.Pulled.{pulled-more, pulled-whole, Pulled}
-use Rattle.window.proofs.pull.pull.Needs as need
+use Rattle.window.proofs.places.pull.Needs as need
 
 pub loop-j-holds : need.loop-j-holds
 loop-j-holds g c = record { same = refl; below = λ k d b. refl; moved = λ k d a b. absurd (omega arith); rest = λ k d b. refl }
