@@ -2,5 +2,9 @@ pub mod Positions
 pub mod Tables
 pub mod Flights
 pub mod Facts
+pub mod Flying
+pub mod Items
+pub mod Faults
 pub mod Questions
+pub mod Refusals
 pub mod Filled

@@ -5,7 +5,7 @@ use mathlib.Core.Logic.{_≢_, _⊎_, inl, inr, ⊎-elim}
 use Prim.Native.Nat.{ℕ, zero, suc, _+_, _-_, _≤_, _<_}
 use native.Mathlib.Numerals.{add-one}
 use native.Mathlib.Omega.{arith}
-use Rattle.std.proofs.shelf.Tests.{cond-both, cases-bool, cases-eq, cases-lt, both-ways, or-cases, or-parts, or-left, or-right, or-from, cond-true, cond-false, and-from, and-left, and-right}
+use Rattle.std.proofs.shelf.Tests.{cond-both, cases-bool, cases-eq, cases-lt, cases-order, both-ways, or-cases, or-parts, or-left, or-right, or-from, cond-true, cond-false, and-from, and-left, and-right}
 use Rattle.history.specs.Positions.{some-below, count-below, last-below}
 
 pub some-more : (p : ℕ → Bool) (n : ℕ) → some-below p (n + 1) ≡ (p n || some-below p n)
@@ -132,3 +132,7 @@ bool-mid false true true f = absurd (both-ways false refl (f refl))
 bool-mid false true false f = refl
 bool-mid false false true f = refl
 bool-mid false false false f = refl
+
+-- the least position with a property is one
+pub least-one : (P : ℕ → Type 0) (a b : ℕ) → P a → P b → ((i : ℕ) → i < a → P i → ⊥) → ((i : ℕ) → i < b → P i → ⊥) → a ≡ b
+least-one P a b p q f g = ⊎-elim (λ e. e) (⊎-elim (λ (l : a < b). absurd (g a l p)) (λ (l : b < a). absurd (f b l q))) (cases-order a b)

@@ -3,6 +3,9 @@ pub mod Events
 pub mod Calls
 pub mod WellFormed
 pub mod Tables
+pub mod Items
+pub mod Flights
+pub mod Faults
 pub mod Limits
 pub mod Questions
 pub mod Refusals

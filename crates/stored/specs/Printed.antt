@@ -7,6 +7,7 @@ use Rattle.std.specs.Written.{decimal}
 use Rattle.history.specs.Refusals.{refusal-number}
 use Rattle.history.specs.declared.refusal.Refusal.{Refusal}
 use Rattle.history.specs.declared.refusal.Refusal.the-variants.{SegmentSize, Segments, TooLong, Malformed, TooFewRows, Overlap}
+use Rattle.judge.specs.VerdictText.{verdict-text}
 use Rattle.text.specs.Refusal.{code}
 use Rattle.text.specs.declared.line.BadLine.{BadLine}
 use Rattle.stored.specs.declared.report.Replay.{Replay}
@@ -43,7 +44,7 @@ abbrev pub refused-text : Refusal → List ℕ
 refused-text r = codes "refused=" ++ (decimal (refusal-number r) ++ named-text r)
 
 abbrev pub report-text : Report → List ℕ
-report-text r = codes "events=" ++ (decimal (r .events) ++ (newline ++ codes "replay=" ++ (replay-text (r .replay) ++ newline)))
+report-text r = codes "events=" ++ (decimal (r .events) ++ (newline ++ codes "verdict=" ++ (verdict-text (r .verdict) ++ (newline ++ codes "replay=" ++ (replay-text (r .replay) ++ newline)))))
 
 -- of a report or a fault; want of memory prints nothing
 abbrev pub text : Result Report Fault → List ℕ

@@ -12,6 +12,8 @@ use Rattle.history.specs.Questions.{Question, All-yes, First-no}
 use Rattle.history.specs.Refusals.{refusal-number, Names}
 use Rattle.history.specs.declared.event.Event.{Event}
 use Rattle.history.specs.declared.refusal.Refusal.{Refusal}
+use Rattle.judge.specs.Answers.{judge-questions}
+use Rattle.judge.specs.Verdicts.{Judged}
 use Rattle.replay.specs.Answer.{Replays}
 use Rattle.replay.specs.declared.outcome.Outcome.the-variants as outcome
 use Rattle.text.specs.Lines.{lines}
@@ -22,16 +24,6 @@ use Rattle.stored.specs.declared.report.Replay.{Replay}
 use Rattle.stored.specs.declared.report.Replay.the-variants.{Whole, Stops, Overlap}
 use Rattle.stored.specs.declared.report.Report.{Report}
 
--- there are 2 to 64 segments
-abbrev pub SegmentsFit : ℕ → Type 0
-SegmentsFit n = (2 ≤ n) × (n ≤ 64)
-
-abbrev pub shape-questions : ℕ → ℕ → List Question → List Question
-shape-questions k n more =
-    record { asks = SegmentFits k; number = 1 }
-    ∷ (record { asks = SegmentsFit n; number = 2 }
-    ∷ more)
-
 -- of a history and the number of working rows
 abbrev pub history-questions : List Event → ℕ → List Question
 history-questions h rows =
@@ -39,10 +31,6 @@ history-questions h rows =
     ∷ (record { asks = Formed h; number = 14 }
     ∷ (record { asks = puts-before h (length h) ≤ rows-used rows; number = 15 }
     ∷ []))
-
-abbrev pub ShapeAsked : ℕ → ℕ → Result Unit Refusal → Type 0
-ShapeAsked k n (Ok u) = SegmentFits k × SegmentsFit n
-ShapeAsked k n (Err r) = First-no (shape-questions k n []) (refusal-number r) × ((h : List Event) → Names h r)
 
 -- the number of each answer of the replay; a stop goes with its event
 abbrev pub replay-number : Replay → ℕ
@@ -60,19 +48,20 @@ abbrev pub ReplayGiven : ℕ → List Event → ℕ → Result Replay Refusal �
 ReplayGiven k h rows (Ok a) = SegmentFits k × (All-yes (history-questions h rows) × Tells k h a)
 ReplayGiven k h rows (Err r) = (SegmentFits k → First-no (history-questions h rows) (refusal-number r)) × Names h r
 
--- the questions before a report, of which there are as many rows as are ever used
+-- the questions before a report: those of the judge, with as many rows as are ever used
 abbrev pub report-questions : ℕ → ℕ → List Event → List Question
-report-questions k n h = shape-questions k n (history-questions h most)
+report-questions k n h = judge-questions k n h most
 
 -- the history that the input writes, with its report
-pub record Tale (input : List ℕ) (events : ℕ) (a : Replay) : Type 0 where
+pub record Tale (input : List ℕ) (r : Report) : Type 0 where
   pub k : ℕ
   pub segments : ℕ
   pub history : List Event
   pub held : Holds input k segments history
   pub all-yes : All-yes (report-questions k segments history)
-  pub counted : events ≡ length history
-  pub told : Tells k history a
+  pub counted : r .events ≡ length history
+  pub judged : Judged k segments history (r .verdict)
+  pub replayed : Tells k history (r .replay)
 
 -- the history that the input writes, refused
 pub record Declined (input : List ℕ) (r : Refusal) : Type 0 where
@@ -84,7 +73,7 @@ pub record Declined (input : List ℕ) (r : Refusal) : Type 0 where
   pub names : Names history r
 
 abbrev pub Reported : List ℕ → Result Report Fault → Type 0
-Reported input (Ok rep) = Tale input (rep .events) (rep .replay)
+Reported input (Ok r) = Tale input r
 Reported input (Err (Bad bad)) = BadInput (lines input) bad
 Reported input (Err (Refused r)) = Declined input r
 Reported input (Err Memory) = Unit {0}

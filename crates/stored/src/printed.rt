@@ -9,6 +9,7 @@ use super::report::Replay;
 use super::report::Report;
 use super::report::reported;
 use history::refusal::Refusal;
+use judge::verdict_text::VerdictDisplay;
 use std::alloc::AllocError;
 use std::alloc::Global;
 use std::fmt;
@@ -49,8 +50,12 @@ fn report_lines(heap: Global, report: Report) -> Result<String, AllocError>
     ensures { λ r. ⌜ made r (λ s. string-bytes s ≡ report-text report) ⌝ }
 {
     let events = report.events;
+    let verdict = report.verdict;
     let replay = report.replay;
-    format!(heap, "events={events}\nreplay={replay}\n")
+    format!(
+        heap,
+        "events={events}\nverdict={verdict}\nreplay={replay}\n"
+    )
 }
 
 // The text that is printed of an input: the report of its history, or why there is none.

@@ -1,7 +1,7 @@
 // What is reported of a stored history.
 ghost use mathlib.Core.Path.{_≡_};
 ghost use lib.ListN.{length};
-ghost use Rattle.stored.specs.Report.{ShapeAsked, ReplayGiven, Reported};
+ghost use Rattle.stored.specs.Report.{ReplayGiven, Reported};
 use super::fault::Fault;
 use super::fault::FaultFromAlloc;
 use super::fault::FaultFromRefusal;
@@ -9,6 +9,9 @@ use super::read::read;
 use history::event::Event;
 use history::refusal::Refusal;
 use history::rows::MOST;
+use judge::judge::judge;
+use judge::row::Row;
+use judge::verdict::Verdict;
 use replay::outcome::Outcome;
 use replay::replay::replay;
 use std::alloc::Global;
@@ -24,20 +27,8 @@ pub enum Replay {
 #[derive(Clone, Copy)]
 pub struct Report {
     pub events: usize,
+    pub verdict: Verdict,
     pub replay: Replay,
-}
-
-// Whether segments have 1 to 64 slots, and there are 2 to 64 of them.
-fn ask_shape(k: u32, segments: u32) -> Result<(), Refusal>
-    ensures { λ r. ⌜ ShapeAsked k segments r ⌝ }
-{
-    if k < 1 || k > 64 {
-        return Err(Refusal::SegmentSize);
-    }
-    if segments < 2 || segments > 64 {
-        return Err(Refusal::Segments);
-    }
-    Ok(())
 }
 
 // The replay of a history; calls that overlap are an answer here.
@@ -57,11 +48,13 @@ pub fn reported(heap: Global, input: &[u8]) -> Result<Report, Fault>
     ensures { λ r. ⌜ Reported (now (input .entry)) r ⌝ }
 {
     let stored = read(heap, input)?;
-    ask_shape(stored.k, stored.segments)?;
-    let mut rows = vec![in heap; 0u32; MOST]?;
-    let replay = replayed(&stored.events, stored.k, &mut rows)?;
+    let mut rows = vec![in heap; Row::BLANK; MOST]?;
+    let verdict = judge(&stored.events, stored.k, stored.segments, &mut rows)?;
+    let mut places = vec![in heap; 0u32; MOST]?;
+    let replay = replayed(&stored.events, stored.k, &mut places)?;
     Ok(Report {
         events: stored.events.len(),
+        verdict,
         replay,
     })
 }

@@ -4,34 +4,86 @@ use std::test::*;
 use stored::printed::printed;
 
 // Each input with what is printed of it.
-const TABLE: [(&str, &str); 34] = [
-    // a good history: two items taken out of order within the window, one put refused as full, the queue found empty
-    ("k=2\nsegments=2\nput=0:1\naccepted=0:1\nput=0:2\naccepted=0:2\nput=1:3\nfull=1:3\ntake=1\nitem=1:2\ntake=0\nitem=0:1\ntake=2\nempty=2\n", "events=12\nreplay=ok\n"),
+const TABLE: [(&str, &str); 38] = [
+    // a good history: three items in, one put refused as full, the second item taken first, the queue found empty
+    (
+        "k=2\nsegments=2\nput=0:1\naccepted=0:1\nput=0:2\naccepted=0:2\nput=0:3\naccepted=0:3\nput=1:4\nfull=1:4\ntake=1\nitem=1:2\ntake=0\nitem=0:1\ntake=0\nitem=0:3\ntake=2\nempty=2\n",
+        "events=16\nverdict=sound\nreplay=ok\n",
+    ),
     // no event, with and without the last newline
-    ("k=1\nsegments=2\n", "events=0\nreplay=ok\n"),
-    ("k=1\nsegments=2", "events=0\nreplay=ok\n"),
-    // a replay that stops: an item past the window, one never accepted, an empty answer of a queue that is not empty
-    ("k=1\nsegments=2\nput=0:1\naccepted=0:1\nput=0:2\naccepted=0:2\ntake=0\nitem=0:2\n", "events=6\nreplay=5\n"),
-    ("k=1\nsegments=2\nput=0:1\naccepted=0:1\ntake=0\nitem=0:9\n", "events=4\nreplay=3\n"),
-    ("k=1\nsegments=2\nput=0:1\naccepted=0:1\ntake=0\nempty=0\n", "events=4\nreplay=3\n"),
-    // a full put is left out: its item cannot be taken
-    ("k=1\nsegments=2\nput=0:1\nfull=0:1\ntake=0\nitem=0:1\n", "events=4\nreplay=3\n"),
+    ("k=1\nsegments=2\n", "events=0\nverdict=sound\nreplay=ok\n"),
+    ("k=1\nsegments=2", "events=0\nverdict=sound\nreplay=ok\n"),
+    // each fault where calls follow one another, and where the replay stops
+    (
+        "k=1\nsegments=2\nput=0:1\naccepted=0:1\ntake=0\nitem=0:9\n",
+        "events=4\nverdict=1:3\nreplay=3\n",
+    ),
+    (
+        "k=1\nsegments=2\nput=0:1\naccepted=0:1\nput=0:2\naccepted=0:2\ntake=0\nitem=0:2\n",
+        "events=6\nverdict=2:5\nreplay=5\n",
+    ),
+    (
+        "k=2\nsegments=2\nput=0:1\naccepted=0:1\nput=0:2\naccepted=0:2\nput=0:3\naccepted=0:3\ntake=0\nitem=0:3\n",
+        "events=8\nverdict=3:7\nreplay=7\n",
+    ),
+    (
+        "k=1\nsegments=2\nput=0:1\naccepted=0:1\ntake=0\nempty=0\n",
+        "events=4\nverdict=4:3\nreplay=3\n",
+    ),
+    (
+        "k=1\nsegments=2\nput=0:1\nfull=0:1\ntake=0\nitem=0:1\n",
+        "events=4\nverdict=5:1\nreplay=3\n",
+    ),
+    // full with (N - 1) * k items held, and with one more
+    (
+        "k=1\nsegments=2\nput=0:1\naccepted=0:1\nput=0:2\nfull=0:2\n",
+        "events=4\nverdict=5:3\nreplay=ok\n",
+    ),
+    (
+        "k=1\nsegments=2\nput=0:1\naccepted=0:1\nput=0:2\naccepted=0:2\nput=0:3\nfull=0:3\n",
+        "events=6\nverdict=sound\nreplay=ok\n",
+    ),
     // a take from place w = 2 narrows the window to 1, so that the next one may not reach place 2
-    ("k=2\nsegments=2\nput=0:1\naccepted=0:1\nput=0:2\naccepted=0:2\nput=0:3\naccepted=0:3\ntake=0\nitem=0:2\ntake=0\nitem=0:3\n", "events=10\nreplay=9\n"),
+    (
+        "k=2\nsegments=2\nput=0:1\naccepted=0:1\nput=0:2\naccepted=0:2\nput=0:3\naccepted=0:3\ntake=0\nitem=0:2\ntake=0\nitem=0:3\n",
+        "events=10\nverdict=2:9\nreplay=9\n",
+    ),
     // an empty answer opens the window again
-    ("k=2\nsegments=2\ntake=0\nempty=0\nput=0:1\naccepted=0:1\nput=0:2\naccepted=0:2\ntake=0\nitem=0:2\n", "events=8\nreplay=ok\n"),
-    // a call in flight at the end; two calls in flight together
-    ("k=1\nsegments=2\nput=0:1\n", "events=1\nreplay=ok\n"),
-    ("k=1\nsegments=2\nput=0:1\ntake=1\n", "events=2\nreplay=overlap\n"),
-    ("k=1\nsegments=2\nput=0:1\nput=1:2\naccepted=0:1\naccepted=1:2\n", "events=4\nreplay=overlap\n"),
+    (
+        "k=2\nsegments=2\ntake=0\nempty=0\nput=0:1\naccepted=0:1\nput=0:2\naccepted=0:2\ntake=0\nitem=0:2\n",
+        "events=8\nverdict=sound\nreplay=ok\n",
+    ),
+    // a call in flight at the end; two calls in flight together; an item handed out before its put is answered full
+    (
+        "k=1\nsegments=2\nput=0:1\n",
+        "events=1\nverdict=sound\nreplay=ok\n",
+    ),
+    (
+        "k=1\nsegments=2\nput=0:1\ntake=1\n",
+        "events=2\nverdict=sound\nreplay=overlap\n",
+    ),
+    (
+        "k=1\nsegments=2\nput=0:1\nput=1:2\naccepted=0:1\naccepted=1:2\ntake=0\nitem=0:2\n",
+        "events=6\nverdict=sound\nreplay=overlap\n",
+    ),
+    (
+        "k=1\nsegments=2\nput=0:1\ntake=1\nitem=1:1\nfull=0:1\n",
+        "events=4\nverdict=1:3\nreplay=overlap\n",
+    ),
     // k from 1 to 64, 2 to 64 segments
     ("k=0\nsegments=1\n", "refused=1\n"),
-    ("k=64\nsegments=64\n", "events=0\nreplay=ok\n"),
+    (
+        "k=64\nsegments=64\n",
+        "events=0\nverdict=sound\nreplay=ok\n",
+    ),
     ("k=65\nsegments=2\n", "refused=1\n"),
     ("k=1\nsegments=1\n", "refused=2\n"),
     ("k=1\nsegments=65\n", "refused=2\n"),
     // events that are not well formed
-    ("k=1\nsegments=2\ntake=63\nempty=63\n", "events=2\nreplay=ok\n"),
+    (
+        "k=1\nsegments=2\ntake=63\nempty=63\n",
+        "events=2\nverdict=sound\nreplay=ok\n",
+    ),
     ("k=1\nsegments=2\ntake=64\n", "refused=14:0\n"),
     ("k=1\nsegments=2\nput=0:2\n", "refused=14:0\n"),
     ("k=1\nsegments=2\nput=0:1\ntake=0\n", "refused=14:1\n"),
@@ -78,7 +130,7 @@ fn events_up_to_the_limit_are_read(rt: LibcRuntime) -> Result<(), Fail> {
     let heap = rt.alloc();
     let most = empty_takes(heap, 65536)?;
     let text = printed(heap, most.as_bytes())?;
-    check_eq(text.as_str(), "events=65536\nreplay=ok\n")?;
+    check_eq(text.as_str(), "events=65536\nverdict=sound\nreplay=ok\n")?;
     let mut over = empty_takes(heap, 65537)?;
     let text = printed(heap, over.as_bytes())?;
     check_eq(text.as_str(), "refused=13\n")?;
@@ -101,7 +153,7 @@ fn lines_up_to_80_bytes_are_read(rt: LibcRuntime) -> Result<(), Fail> {
     let heap = rt.alloc();
     let longest = long_take(heap, 80)?;
     let text = printed(heap, longest.as_bytes())?;
-    check_eq(text.as_str(), "events=1\nreplay=ok\n")?;
+    check_eq(text.as_str(), "events=1\nverdict=sound\nreplay=ok\n")?;
     let over = long_take(heap, 81)?;
     let text = printed(heap, over.as_bytes())?;
     check_eq(text.as_str(), "bad=3:21\n")

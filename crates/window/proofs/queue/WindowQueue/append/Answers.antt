@@ -12,8 +12,7 @@ returns g c =
     let xs = s .places .now in
     let lt = ltb-true (s .len) (length xs) (sym (c .if-not-put-at .ensures tt .done)) in
     let n = length-take-le (s .len) xs (omega arith) in
-    let after = c .put-at .ensures .after in
-    (
+    let after = c .put-at .ensures .after in (
       omega (arith, n),
       (
         ap (λ l. record { q = l; w = s .window }) (ap (take (s .len + 1)) after ∙ take-more-set xs (s .len) (c .args .x) lt),
@@ -25,8 +24,7 @@ pub returns-then-not-put-at : need.returns-then-not-put-at
 returns-then-not-put-at g c =
     let s = c .args .self .now in
     let xs = s .places .now in
-    let le = ltb-false (s .len) (length xs) (sym (c .if-not-put-at .ensures tt .done)) in
-    (
+    let le = ltb-false (s .len) (length xs) (sym (c .if-not-put-at .ensures tt .done)) in (
       ap length (take-all (s .len) xs le),
       (refl, ap (λ l. record { places = l; len = s .len; w = s .window; k = s .k }) (c .put-at .ensures .after ∙ set-past xs (s .len) (c .args .x) le)),
     )

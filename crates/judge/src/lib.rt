@@ -7,4 +7,5 @@ mod seen;
 mod step;
 pub mod theorems;
 pub mod verdict;
+pub mod verdict_text;
 mod walk;

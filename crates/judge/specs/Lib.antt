@@ -5,3 +5,4 @@ pub mod Walk
 pub mod Answers
 pub mod Table
 pub mod Theorems
+pub mod VerdictText
