@@ -2,7 +2,6 @@ pub mod Positions
 pub mod Tables
 pub mod Flights
 pub mod Facts
-pub mod Flying
 pub mod Items
 pub mod Faults
 pub mod Questions

@@ -8,9 +8,8 @@ use mathlib.Core.Logic.{_≢_, _⊎_}
 use Prim.Native.Nat.{ℕ, suc, _-_, _*_, _≤_, _<_}
 use Rattle.history.specs.Positions.{count-below}
 use Rattle.history.specs.Events.{kind-at, thread-at, item-at}
-use Rattle.history.specs.Calls.{last-event}
+use Rattle.history.specs.Calls.{last-event, Apart}
 use Rattle.history.specs.Items.{begun, accepted, refused-as-full, handed-out, held, younger, passes, count-items}
-use Rattle.history.specs.Flights.{together}
 use Rattle.history.specs.declared.event.Event.{Event}
 
 -- At an event 5: the item's put has not begun, or was answered full, or the item was handed out before.
@@ -38,7 +37,7 @@ Fault4 h i = (kind-at h i ≡ 6) × ((a : ℕ) × ((held h i a ≡ true) × (acc
 
 -- At an event 4: no two calls were in flight together so far, and (n - 1) * k items or fewer are held.
 abbrev pub Fault5 : ℕ → ℕ → List Event → ℕ → Type 0
-Fault5 k n h i = (kind-at h i ≡ 4) × ((together h i ≡ false) × (count-items h i (held h i) ≤ (n - 1) * k))
+Fault5 k n h i = (kind-at h i ≡ 4) × (Apart h i × (count-items h i (held h i) ≤ (n - 1) * k))
 
 -- event i shows the fault f
 abbrev pub Shows : ℕ → ℕ → List Event → ℕ → ℕ → Type 0

@@ -4,7 +4,6 @@ pub mod Calls
 pub mod WellFormed
 pub mod Tables
 pub mod Items
-pub mod Flights
 pub mod Faults
 pub mod Limits
 pub mod Questions

@@ -15,7 +15,7 @@ use Rattle.history.specs.Events.{kind-at, item-at, is, tells}
 use Rattle.history.specs.Calls.{puts-before}
 use Rattle.history.specs.WellFormed.{formed, Formed}
 use Rattle.history.specs.Items.{begun, accepted, refused-as-full, handed-out, held, younger, passes, count-items}
-use Rattle.history.specs.Flights.{flying, together}
+use Rattle.judge.specs.Flights.{flying, together}
 use Rattle.history.specs.Faults.{Fault1, Fault2, Fault3, call-begin, Fault4, Fault5, Shows, Clean}
 use Rattle.history.specs.declared.event.Event.{Event}
 use Rattle.history.proofs.Positions.{some-at, some-find}
@@ -25,6 +25,7 @@ use Rattle.judge.specs.Verdicts.{Judged}
 use Rattle.judge.specs.Table.{two-puts, both-begun, three-puts, empty-late, empty-early, Table}
 use Rattle.judge.specs.declared.verdict.Verdict.{Verdict}
 use Rattle.judge.specs.declared.verdict.Verdict.the-variants.{Sound, Fault}
+use Rattle.judge.proofs.Together.{dec-apart}
 use Rattle.judge.proofs.Counting.{accepted-begun}
 
 dec-true : (b : Bool) → Decides b (b ≡ true)
@@ -96,7 +97,7 @@ module _ (k n : ℕ) (h : List Event) (F : Formed h) (i : ℕ) (le : i ≤ lengt
       (λ a. decides-and _ _ (dec-true (held h i a)) (dec-true (accepted h (call-begin h i) a))) (λ a q. held-begun a (q .0)))
 
   dec-fault5 : Decides (fault5 k n h i) (Fault5 k n h i)
-  dec-fault5 = decides-and _ _ (decides-eqb (kind-at h i) 4) (decides-and _ _ (dec-false (together h i)) (dec-le (count-items h i (held h i)) ((n - 1) * k)))
+  dec-fault5 = decides-and _ _ (decides-eqb (kind-at h i) 4) (decides-and _ _ (dec-apart h F i le) (dec-le (count-items h i (held h i)) ((n - 1) * k)))
 
   dec-shows : (f : ℕ) → Decides (shown k n h f i) (Shows k n h f i)
   dec-shows f = decides-or _ _ (decides-and _ _ (decides-eqb f 1) dec-fault1) (decides-or _ _ (decides-and _ _ (decides-eqb f 2) dec-fault2) (decides-or _ _ (decides-and _ _ (decides-eqb f 3) dec-fault3) (decides-or _ _ (decides-and _ _ (decides-eqb f 4) dec-fault4) (decides-and _ _ (decides-eqb f 5) dec-fault5))))

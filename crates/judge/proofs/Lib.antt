@@ -1,3 +1,5 @@
+pub mod Flying
+pub mod Together
 pub mod Rows
 pub mod Held
 pub mod Known

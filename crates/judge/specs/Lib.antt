@@ -1,3 +1,4 @@
+pub mod Flights
 pub mod Rows
 pub mod Verdicts
 pub mod State

@@ -12,7 +12,7 @@ use Rattle.history.specs.Calls.{puts-before}
 use Rattle.history.specs.WellFormed.{Formed}
 use Rattle.history.specs.Tables.{LastsAre}
 use Rattle.history.specs.Items.{held, passes}
-use Rattle.history.specs.Flights.{flying, together}
+use Rattle.judge.specs.Flights.{flying, together}
 use Rattle.history.specs.Faults.{Clean, Lowest}
 use Rattle.history.specs.Limits.{Short}
 use Rattle.history.specs.declared.event.Event.{Event}

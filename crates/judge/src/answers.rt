@@ -4,7 +4,7 @@ ghost use mathlib.Core.Path.{_≡_};
 ghost use lib.ListN.{length};
 ghost use Rattle.history.specs.Events.{kind-at, thread-at};
 ghost use Rattle.history.specs.Calls.{last-event};
-ghost use Rattle.history.specs.Flights.{together};
+ghost use Rattle.judge.specs.Flights.{together};
 ghost use Rattle.judge.specs.State.{ItemsAre, Ready, Fresh, Stepped};
 use super::row::Row;
 use super::seen::Seen;

@@ -2,7 +2,7 @@
 ghost use Prim.Native.Nat.{_+_, _<_};
 ghost use mathlib.Core.Path.{_≡_};
 ghost use lib.ListN.{length};
-ghost use Rattle.history.specs.Flights.{flying};
+ghost use Rattle.judge.specs.Flights.{flying};
 ghost use Rattle.history.specs.WellFormed.{Formed};
 ghost use Rattle.judge.specs.State.{FlightsAre};
 use history::event::Event;

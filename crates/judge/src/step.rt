@@ -4,7 +4,7 @@ ghost use mathlib.Core.Path.{_≡_};
 ghost use lib.ListN.{length};
 ghost use Rattle.history.specs.Events.{thread-at};
 ghost use Rattle.history.specs.Calls.{last-event};
-ghost use Rattle.history.specs.Flights.{together};
+ghost use Rattle.judge.specs.Flights.{together};
 ghost use Rattle.judge.specs.State.{ItemsAre, Ready, Stepped};
 use super::answers::answer_empty;
 use super::answers::answer_full;

@@ -6,7 +6,7 @@ use Rattle.std.proofs.shelf.Lists.{getD-replicate}
 use Rattle.std.proofs.shelf.Tests.{both-ways}
 use Rattle.history.specs.Events.{thread-at}
 use Rattle.history.proofs.Tables.{formed-small}
-use Rattle.history.proofs.Flying.{flying-none, together-none}
+use Rattle.judge.proofs.Flying.{flying-none, together-none}
 use Rattle.judge.proofs.judge.run.Needs as need
 
 pub loop-i-holds : need.loop-i-holds

@@ -8,11 +8,11 @@ use Rattle.std.proofs.shelf.Tests.{or-right}
 use Rattle.history.specs.Events.{thread-at}
 use Rattle.history.specs.WellFormed.{Formed}
 use Rattle.history.specs.Tables.{LastsAre}
-use Rattle.history.specs.Flights.{flying, together}
+use Rattle.judge.specs.Flights.{flying, together}
 use Rattle.history.specs.declared.event.Event.{Event}
 use Rattle.history.specs.declared.threads.LastEvents.{LastEvents}
 use Rattle.history.proofs.Tables.{marks-next, formed-small}
-use Rattle.history.proofs.Flying.{together-more}
+use Rattle.judge.proofs.Flying.{together-more}
 use Rattle.judge.specs.State.{FlightsAre}
 use Rattle.judge.specs.declared.flights.Flights.{Flights}
 use Rattle.judge.proofs.flights.Flights.after.Needs as need

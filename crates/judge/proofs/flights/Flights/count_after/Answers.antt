@@ -6,7 +6,7 @@ use Rattle.history.specs.Events.{event-at}
 use Rattle.history.specs.declared.event.Kind.{Kind}
 use Rattle.history.specs.declared.event.Kind.the-variants.{PutBegun, TakeBegun, Accepted, Full, HandedOut, Empty}
 use Rattle.history.proofs.Flights.{begins}
-use Rattle.history.proofs.Flying.{flying-begin, flying-answer, flying-le}
+use Rattle.judge.proofs.Flying.{flying-begin, flying-answer, flying-le}
 use Rattle.judge.proofs.flights.Flights.count_after.Needs as need
 
 a-begin : (k : Kind) → (k ≡ PutBegun) ⊎ (k ≡ TakeBegun) → begins k ≡ true

@@ -6,15 +6,15 @@ use Prim.Native.Nat.{ℕ, _+_, _≤_, _<_}
 use native.Mathlib.Numerals.{add-one}
 use lib.Dec.{ltb}
 use lib.ListN.{length}
 use Rattle.history.specs.Positions.{some-below}
 use Rattle.history.specs.Events.{event-at, thread-at}
 use Rattle.history.specs.Calls.{in-flight}
 use Rattle.history.specs.WellFormed.{Formed}
-use Rattle.history.specs.Flights.{flying, together}
+use Rattle.judge.specs.Flights.{flying, together}
 use Rattle.history.specs.declared.event.Event.{Event}
 use Rattle.history.proofs.Positions.{count-le, count-none, count-less}
 use Rattle.history.proofs.Tables.{formed-small}
 use Rattle.history.proofs.Flights.{in-flight-other, begins, flight-after, flight-before}
 
 module _ (h : List Event) (i : ℕ) (F : Formed h) (in-h : i < length h) where
   small : thread-at h i < 64
