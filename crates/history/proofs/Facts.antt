@@ -1,22 +1,21 @@
 -- What holds of a history whose events are all well formed.
 use mathlib.Core.Path.{_≡_, refl, sym, ap, subst, _∙_}
-use mathlib.Core.Bool.{Bool, true, false, cond, not, _&&_, _||_}
+use mathlib.Core.Bool.{true, false, cond, not, _&&_}
 use mathlib.Core.List.{List}
-use mathlib.Core.Logic.{_≢_, _⊎_, inl, inr, ⊎-elim}
-use Prim.Native.Nat.{ℕ, zero, suc, _+_, _-_, _≤_, _<_}
-use native.Mathlib.Numerals.{add-one}
+use mathlib.Core.Logic.{_≢_, _⊎_, inl, ⊎-elim}
+use Prim.Native.Nat.{ℕ, suc, _-_, _≤_, _<_}
 use native.Mathlib.Omega.{arith}
 use lib.Dec.{eqb, ltb}
-use lib.ListN.{length, getD}
-use Rattle.std.proofs.shelf.Tests.{cases-eq, cases-bool, cases-order, eq-eqb, ne-eqb, eqb-true, eqb-false, cond-true, cond-false, cond-both, and-parts, and-from, and-left, and-right, ltb-true, both-ways, not-true}
+use lib.ListN.{length}
+use Rattle.std.proofs.shelf.Tests.{cases-order, eq-eqb, ne-eqb, eqb-true, eqb-false, cond-true, cond-false, and-parts, and-from, and-left, and-right}
 use Rattle.history.specs.Positions.{count-below}
 use Rattle.history.specs.Events.{event-at, kind-number, kind-at, thread-at, item-at, is, tells}
 use Rattle.history.specs.Calls.{by, last-event, last-kind, in-flight}
-use Rattle.history.specs.WellFormed.{suits, formed, Formed, last-item}
+use Rattle.history.specs.WellFormed.{suits, formed, Formed}
 use Rattle.history.specs.declared.event.Event.{Event}
 use Rattle.history.specs.declared.event.Kind.{Kind}
 use Rattle.history.specs.declared.event.Kind.the-variants.{PutBegun, TakeBegun, Accepted, Full, HandedOut, Empty}
-use Rattle.history.proofs.Positions.{last-is, last-le, count-mono}
+use Rattle.history.proofs.Positions.{last-is, count-mono}
 
 -- the kind that a number stands for
 abbrev pub kindOf : ℕ → Kind

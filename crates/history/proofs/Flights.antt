@@ -1,14 +1,14 @@
 -- Which calls are in flight after an event.
-use mathlib.Core.Path.{_≡_, refl, sym, ap, subst, _∙_}
-use mathlib.Core.Bool.{Bool, true, false, cond, not, _&&_, _||_}
+use mathlib.Core.Path.{_≡_, refl, ap, _∙_}
+use mathlib.Core.Bool.{Bool, true, false, cond, not, _||_}
 use mathlib.Core.List.{List}
 use mathlib.Core.Logic.{_⊎_, inl, inr, ⊎-elim}
 use Prim.Native.Nat.{ℕ, suc, _+_, _-_}
 use native.Mathlib.Omega.{arith}
 use lib.Dec.{eqb, ltb}
-use Rattle.std.proofs.shelf.Tests.{eq-eqb, ne-eqb, eqb-true, and-parts, not-true, or-left, or-right, or-from, cond-false}
+use Rattle.std.proofs.shelf.Tests.{eq-eqb, ne-eqb, eqb-true, and-parts, not-true, or-left, or-right, cond-false}
 use Rattle.history.specs.Events.{event-at, kind-number, kind-at, thread-at, item-at}
-use Rattle.history.specs.Calls.{last-event, last-kind, in-flight, puts-before}
+use Rattle.history.specs.Calls.{last-kind, in-flight, puts-before}
 use Rattle.history.specs.WellFormed.{suits, formed, last-item}
 use Rattle.history.specs.declared.event.Event.{Event}
 use Rattle.history.specs.declared.event.Kind.{Kind}

@@ -1,11 +1,11 @@
 -- Laws of the words about positions.
 use mathlib.Core.Path.{_≡_, refl, sym, ap, subst, _∙_}
-use mathlib.Core.Bool.{Bool, true, false, cond, not, _&&_, _||_}
-use mathlib.Core.Logic.{_≢_, _⊎_, inl, inr, ⊎-elim}
+use mathlib.Core.Bool.{Bool, true, false, cond, _&&_, _||_}
+use mathlib.Core.Logic.{_≢_, _⊎_, ⊎-elim}
 use Prim.Native.Nat.{ℕ, zero, suc, _+_, _-_, _≤_, _<_}
 use native.Mathlib.Numerals.{add-one}
 use native.Mathlib.Omega.{arith}
-use Rattle.std.proofs.shelf.Tests.{cond-both, cases-bool, cases-eq, cases-lt, cases-order, both-ways, or-cases, or-parts, or-left, or-right, or-from, cond-true, cond-false, and-from, and-left, and-right}
+use Rattle.std.proofs.shelf.Tests.{cond-both, cases-bool, cases-eq, cases-order, both-ways, or-cases, or-left, or-right, or-from, cond-true, cond-false, and-from, and-left, and-right}
 use Rattle.history.specs.Positions.{some-below, count-below, last-below}
 
 pub some-more : (p : ℕ → Bool) (n : ℕ) → some-below p (n + 1) ≡ (p n || some-below p n)
@@ -107,9 +107,6 @@ last-none p (suc n) e = ⊎-elim
     (λ (t : p n ≡ true). absurd (let q : suc n ≡ 0 = sym (cond-true (p n) (suc n) (last-below p n) t) ∙ e in omega arith))
     (λ (t : p n ≡ false). or-from (p n) (some-below p n) t (last-none p n (sym (cond-false (p n) (suc n) (last-below p n) t) ∙ e)))
     (cases-bool (p n))
-
-pub last-some : (p : ℕ → Bool) (n j : ℕ) → last-below p n ≡ suc j → some-below p n ≡ true
-last-some p n j e = let l = last-is p n j e in some-at p n j (l .0) (l .1 .0)
 
 pub some-mono : (p : ℕ → Bool) (m n : ℕ) → m ≤ n → some-below p m ≡ true → some-below p n ≡ true
 some-mono p m n le e = let f = some-find p m e in some-at p n (f .0) (omega (arith, f .1 .0)) (f .1 .1)

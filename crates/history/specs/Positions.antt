@@ -1,5 +1,5 @@
 -- Words about positions: of those below n, whether a test holds at some, at how many, and at which last.
-use mathlib.Core.Bool.{Bool, true, false, cond, _||_}
+use mathlib.Core.Bool.{Bool, false, cond, _||_}
 use Prim.Native.Nat.{ℕ, zero, suc}
 
 -- p holds at some j below n

@@ -1,5 +1,5 @@
 -- No two calls were in flight together exactly where at no place more than one was counted.
-use mathlib.Core.Path.{_≡_, refl, sym, ap, subst, _∙_}
+use mathlib.Core.Path.{_≡_}
 use mathlib.Core.Bool.{Bool, true, false, not}
 use mathlib.Core.List.{List}
 use mathlib.Core.Logic.{_≢_, ⊎-elim}
@@ -8,7 +8,7 @@ use native.Mathlib.Omega.{arith}
 use lib.Dec.{eqb, ltb}
 use lib.ListN.{length}
 use Rattle.std.specs.Orderings.{Decides}
-use Rattle.std.proofs.shelf.Tests.{cases-bool, cases-eq, cases-order, cond-true, cond-false, ltb-false, le-ltb, eq-eqb, eqb-true, not-true, not-from-false, or-cases}
+use Rattle.std.proofs.shelf.Tests.{cases-bool, cases-order, cond-true, cond-false, ltb-false, le-ltb, eq-eqb, eqb-true, not-true, not-from-false, or-cases}
 use Rattle.history.specs.Positions.{count-below}
 use Rattle.history.specs.Events.{kind-at, thread-at}
 use Rattle.history.specs.Calls.{by, last-event, last-kind, in-flight, Apart}
@@ -30,8 +30,8 @@ count-one : (p : ℕ → Bool) (n : ℕ) → ((a b : ℕ) → a < n → b < n �
 count-one p zero f = omega arith
 count-one p (suc n) f = ⊎-elim
     (λ (e : p n ≡ true).
-      let none = count-none p n (λ j lt. ⊎-elim (λ (t : p j ≡ true). absurd (let s = f j n (omega arith) (omega arith) t e in omega arith)) (λ (t : p j ≡ false). t) (cases-bool (p j))) in
-      omega (arith, none, cond-true (p n) (suc (count-below p n)) (count-below p n) e))
+    let none = count-none p n (λ j lt. ⊎-elim (λ (t : p j ≡ true). absurd (let s = f j n (omega arith) (omega arith) t e in omega arith)) (λ (t : p j ≡ false). t) (cases-bool (p j))) in
+    omega (arith, none, cond-true (p n) (suc (count-below p n)) (count-below p n) e))
     (λ (e : p n ≡ false). omega (arith, count-one p n (λ a b la lb. f a b (omega arith) (omega arith)), cond-false (p n) (suc (count-below p n)) (count-below p n) e))
     (cases-bool (p n))
 

@@ -1,20 +1,16 @@
 -- The replay under way: feeding the queue, and playing an event on it.
 use mathlib.Core.Path.{_≡_, refl, sym, ap, subst, _∙_}
-use mathlib.Core.Bool.{Bool, true, false}
+use mathlib.Core.Bool.{true, false}
 use mathlib.Core.List.{List, [], _∷_, _++_}
 use mathlib.Core.Logic.{_⊎_, inl, inr, ⊎-elim}
-use Prim.Native.Nat.{ℕ, zero, suc, _+_, _-_, _≤_, _<_}
+use Prim.Native.Nat.{ℕ, suc, _+_, _-_, _≤_, _<_}
 use native.Mathlib.Numerals.{add-one}
 use native.Mathlib.Omega.{arith}
 use lib.ListN.{length, take, drop}
 use Rattle.std.specs.shelf.Lists.{between}
-use Rattle.std.proofs.shelf.Lists.{append-nil, append-assoc, length-append, drop-more, nil-from-length, length-set}
+use Rattle.std.proofs.shelf.Lists.{append-nil, append-assoc, length-append, drop-more, nil-from-length}
 use Rattle.std.proofs.shelf.Edits.{between-none, between-more}
-use Rattle.std.specs.declared.result.Result.{Result}
-use Rattle.std.specs.declared.result.Result.the-variants.{Ok, Err}
-use Rattle.history.specs.Positions.{count-below}
 use Rattle.history.specs.Events.{event-at, nothing, is}
-use Rattle.history.specs.Calls.{puts-before}
 use Rattle.history.specs.declared.event.Event.{Event}
 use Rattle.history.specs.declared.event.Kind.{Kind}
 use Rattle.history.specs.declared.event.Kind.the-variants.{PutBegun, TakeBegun, Accepted, Full, HandedOut, Empty}

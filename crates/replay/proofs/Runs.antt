@@ -1,6 +1,6 @@
 -- What holds in every run of the window queue on a well-formed history, and that its states are determined.
 use mathlib.Core.Path.{_≡_, refl, sym, ap, subst, _∙_}
-use mathlib.Core.Bool.{Bool, true, false, cond}
+use mathlib.Core.Bool.{true, cond}
 use mathlib.Core.List.{List, [], _∷_, _++_}
 use mathlib.Core.Logic.{_⊎_, inl, inr, ⊎-elim}
 use Prim.Native.Nat.{ℕ, zero, suc, _+_, _-_, _≤_, _<_}
@@ -17,7 +17,7 @@ use Rattle.history.specs.WellFormed.{Formed}
 use Rattle.history.specs.declared.event.Event.{Event}
 use Rattle.history.specs.declared.event.Kind.{Kind}
 use Rattle.history.specs.declared.event.Kind.the-variants.{PutBegun, TakeBegun, Accepted, Full, HandedOut, Empty}
-use Rattle.history.proofs.Positions.{some-find, some-mono}
+use Rattle.history.proofs.Positions.{some-find}
 use Rattle.history.proofs.Facts.{tells-from, accepts-once}
 use Rattle.window.specs.Queue.{Queue, Allowed, taken}
 use Rattle.window.specs.Law.{Stands}

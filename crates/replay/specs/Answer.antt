@@ -26,7 +26,7 @@ replay-questions k h rows =
     ∷ (record { asks = Apart h (length h); number = 16 }
     ∷ []))))
 
--- the number of each outcome; a stop goes with its event
+-- the number of each outcome; a stop names its event beside it
 abbrev pub outcome-number : Outcome → ℕ
 outcome-number Whole = 0
 outcome-number (Stops e) = 1

@@ -14,7 +14,6 @@ use Rattle.judge.specs.declared.verdict.Verdict.{Verdict}
 use Rattle.stored.specs.Input.{Holds}
 use Rattle.stored.specs.Report.{history-questions, ReplayGiven, Tale, Declined}
 use Rattle.stored.specs.declared.report.Replay.{Replay}
-use Rattle.stored.specs.declared.report.Report.{Report}
 
 -- the judge and the replay were handed this history and this many rows
 pub judged-at : (k n : ℕ) (h h′ : List Event) (m m′ : ℕ) (r : Result Verdict Refusal) → h ≡ h′ → m ≡ m′ → judge.Answered k n h m r → judge.Answered k n h′ m′ r

@@ -1,20 +1,18 @@
 -- The lines of a stored history.
 use mathlib.Core.Path.{_≡_}
-use mathlib.Core.List.{List, [], _∷_, _++_}
-use Prim.Native.Nat.{ℕ, _≤_, _<_, _^_}
+use mathlib.Core.List.{List, _∷_, _++_}
+use Prim.Native.Nat.{ℕ, _<_, _^_}
 use lib.Chars.{codes}
-use lib.ListN.{length}
 use denote.Ref.{RefT}
 use Rattle.std.specs.declared.option.Option.{Option}
 use Rattle.std.specs.declared.option.Option.the-variants.{Some, None}
 use Rattle.std.specs.declared.result.Result.{Result}
 use Rattle.std.specs.declared.result.Result.the-variants.{Ok, Err}
-use Rattle.history.specs.Questions.{Question, All-yes, First-no}
 use Rattle.history.specs.declared.event.Event.{Event}
 use Rattle.history.specs.declared.event.Kind.{Kind}
 use Rattle.history.specs.declared.event.Kind.the-variants.{PutBegun, TakeBegun, Accepted, Full, HandedOut, Empty}
 use Rattle.text.specs.Numeral.{Numeral}
-use Rattle.text.specs.Refusal.{code, refusal}
+use Rattle.text.specs.Refusal.{refusal}
 use Rattle.text.specs.declared.line.BadLine.{BadLine}
 use Rattle.text.specs.declared.line.Reason.the-variants.{Unreadable}
 

@@ -32,12 +32,6 @@ history-questions h rows =
     ∷ (record { asks = puts-before h (length h) ≤ rows-used rows; number = 15 }
     ∷ []))
 
--- the number of each answer of the replay; a stop goes with its event
-abbrev pub replay-number : Replay → ℕ
-replay-number Whole = 0
-replay-number (Stops e) = 1
-replay-number Overlap = 16
-
 -- what the replay tells of a history
 abbrev pub Tells : ℕ → List Event → Replay → Type 0
 Tells k h Whole = Apart h (length h) × Replays k h outcome.Whole

@@ -1,6 +1,6 @@
 -- The window queue's calls are those of the sequential specification.
 use Prim.Native.Nat.{ℕ, zero, suc, _+_, _-_, _≤_, _<_}
-use mathlib.Core.Path.{_≡_, refl, sym, ap, subst, _∙_}
+use mathlib.Core.Path.{_≡_, refl, sym, ap, _∙_}
 use mathlib.Core.List.{List, [], _∷_, _++_}
 use mathlib.Core.Logic.{_⊎_, inl, inr, ⊎-elim}
 use mathlib.Core.Bool.{cond}
@@ -11,7 +11,7 @@ use Rattle.std.specs.shelf.Lists.{removed}
 use Rattle.std.proofs.shelf.Lists.{append-assoc, take-append-drop, drop-more, length-take-le, length-append, length-push, take-at, drop-at, getD-at}
 use Rattle.std.proofs.shelf.Tests.{cond-false, lt-leb}
 use Rattle.window.specs.Queue.{Queue, appended, Allowed, taken}
-use Rattle.window.specs.Sequential.{Enqueues, Dequeues-nothing, Dequeues-oldest, Dequeues-later, Dequeues}
+use Rattle.window.specs.Sequential.{Dequeues-oldest, Dequeues-later, Dequeues}
 use Rattle.window.specs.Law.{Stands, Follows-specification}
 use Rattle.window.proofs.Takes.{taken-at, allowed-from}
 

@@ -3,7 +3,7 @@ use Prim.Native.Nat.{ℕ, _-_, _≤_}
 use mathlib.Core.Path.{_≡_}
 use mathlib.Core.Logic.{_↔_}
 use lib.ListN.{length, getD}
-use Rattle.window.specs.Queue.{Queue, start, appended, Allowed, taken}
+use Rattle.window.specs.Queue.{Queue, appended, Allowed, taken}
 use Rattle.window.specs.Sequential.{Enqueues, Dequeues-nothing, Dequeues}
 
 -- x stands at place i of the list, counted from 1

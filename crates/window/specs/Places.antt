@@ -1,7 +1,7 @@
 -- The queue in its places: the list stands at the front of them, and those behind it are unused.
 use Prim.Native.Nat.{ℕ, _+_, _-_, _≤_, _<_}
 use mathlib.Core.Path.{_≡_}
-use mathlib.Core.List.{List, [], _∷_, _++_}
+use mathlib.Core.List.{List, _++_}
 use lib.ListN.{length, take, drop, getD, set}
 use Rattle.std.specs.shelf.Lists.{removed}
 use Rattle.std.specs.declared.option.Option.{Option}

@@ -1,5 +1,4 @@
 -- A thread's mark and the count of puts do not pass the position of the event.
-use Prim.Native.Nat.{_≤_}
 use native.Mathlib.Omega.{arith}
 use Rattle.history.specs.Calls.{by}
 use Rattle.history.specs.Events.{is, thread-at}

@@ -1,11 +1,10 @@
 use Prim.Native.Nat.{_+_}
-use mathlib.Core.Path.{refl, sym, subst, _∙_, ap}
+use mathlib.Core.Path.{refl, sym, _∙_, ap}
 use native.Mathlib.Omega.{arith}
 use borrow.Author.Count.{below-more}
 use lib.ListN.{getD}
 use Rattle.std.proofs.shelf.Lists.{getD-replicate}
 use Rattle.history.specs.Events.{is}
-use Rattle.history.specs.Calls.{last-event}
 use Rattle.history.proofs.Positions.{count-le}
 use Rattle.history.proofs.Tables.{marks-next, formed-small, puts-yes, puts-no}
 use Rattle.history.proofs.formed.puts_begun.Needs as need

@@ -1,11 +1,9 @@
-use mathlib.Core.Path.{_≡_, refl, sym, subst, _∙_}
-use mathlib.Core.Bool.{Bool, true, false}
-use mathlib.Core.Logic.{_⊎_}
-use Prim.Native.Nat.{ℕ, _+_}
+use mathlib.Core.Path.{refl, sym, subst}
+use mathlib.Core.Bool.{Bool, false}
+use Prim.Native.Nat.{_+_}
 use native.Mathlib.Omega.{arith}
 use Rattle.std.proofs.shelf.Tests.{both-ways}
 use Rattle.history.specs.Events.{event-at}
-use Rattle.history.specs.Calls.{Apart}
 use Rattle.replay.proofs.OneAtATime.{Alone, begins-from, answers-from, alone-at-first, alone-begin, alone-answer, begin-overlaps}
 use Rattle.replay.proofs.alone.one_at_a_time.Needs as need
 use Rattle.replay.proofs.alone.one_at_a_time.Needs.{in-PutBegun·else-busy, in-rest}

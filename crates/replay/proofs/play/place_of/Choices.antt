@@ -1,4 +1,4 @@
-use Prim.Native.Nat.{ℕ, _≤_, _<_}
+use Prim.Native.Nat.{ℕ, _<_}
 use Rattle.window.specs.Law.{Stands}
 use Rattle.window.specs.Places.{content, queue}
 use Rattle.replay.proofs.play.place_of.Given as given

@@ -1,11 +1,11 @@
-use mathlib.Core.Path.{refl, sym, ap, subst, _∙_}
+use mathlib.Core.Path.{sym, ap, subst, _∙_}
 use mathlib.Core.Logic.{inl, inr}
 use Prim.Native.Nat.{ℕ, _+_}
 use native.Mathlib.Omega.{arith}
-use lib.ListN.{length, set}
+use lib.ListN.{length}
 use Rattle.std.proofs.shelf.Lists.{length-set}
 use Rattle.history.specs.Events.{event-at}
-use Rattle.window.specs.Places.{Places, content, queue}
+use Rattle.window.specs.Places.{content, queue}
 use Rattle.window.specs.declared.queue.WindowQueue.{WindowQueue}
 use Rattle.replay.specs.Playing.{accepted-item, Ready, Playing}
 use Rattle.replay.proofs.Plays.{feed-other, feed-one, has-place, not-accepted}

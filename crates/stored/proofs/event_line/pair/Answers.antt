@@ -1,8 +1,7 @@
-use mathlib.Core.Path.{_≡_, sym, subst, _∙_}
+use mathlib.Core.Path.{subst}
 use mathlib.Core.List.{List}
 use Prim.Native.Nat.{ℕ}
 use Rattle.text.specs.Numeral.{Numeral}
-use Rattle.stored.specs.Format.{Pair}
 use Rattle.stored.proofs.Cuts.{one-pair, not-lacking}
 use Rattle.stored.proofs.event_line.pair.Needs as need
 
