@@ -4,3 +4,4 @@ pub mod Counted
 pub mod Front
 pub mod Takes
 pub mod Plays
+pub mod Unique

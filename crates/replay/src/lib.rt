@@ -4,3 +4,4 @@ pub mod outcome;
 pub mod outcome_number;
 mod play;
 pub mod replay;
+pub mod theorems;
