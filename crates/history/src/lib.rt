@@ -1,8 +1,6 @@
 // Histories: what an event is, which histories are well formed, and why one is refused.
 pub mod event;
 pub mod formed;
-pub mod kind;
 pub mod refusal;
-pub mod refusal_number;
 pub mod rows;
 pub mod threads;

@@ -1,4 +1,4 @@
--- The lines of an input: the first of them, and that there is one way only to cut an input into lines. Assumes nothing.
+-- The lines of an input: the first of them, and that there is one way only to cut an input into lines.
 use mathlib.Core.Path.{_≡_, refl, sym, ap, subst, _∙_}
 use mathlib.Core.Logic.{⊎-elim}
 use mathlib.Core.List.{List, [], _∷_, _++_}

@@ -1,4 +1,4 @@
--- Bytes that lack a byte, and a list cut at one place. Assumes nothing.
+-- Bytes that lack a byte, and a list cut at one place.
 use mathlib.Core.Path.{_≡_, sym, ap, _∙_}
 use mathlib.Core.List.{List, _∷_, _++_}
 use Prim.Native.Nat.{ℕ, zero, suc, _+_, _<_}

@@ -1,4 +1,4 @@
--- The value of digits, one digit more at a time. Assumes nothing.
+-- The value of digits, one digit more at a time.
 use mathlib.Core.Path.{_≡_, sym, _∙_}
 use mathlib.Core.List.{List, [], _∷_}
 use Prim.Native.Nat.{ℕ, _+_, _≤_, _<_, _^_}

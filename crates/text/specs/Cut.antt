@@ -1,4 +1,4 @@
--- Bytes cut in two, as lists. Assumes nothing.
+-- Bytes cut in two, as lists.
 use mathlib.Core.Path.{_≡_}
 use mathlib.Core.List.{List, _∷_, _++_}
 use Prim.Native.Nat.{ℕ, _<_}

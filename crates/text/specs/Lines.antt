@@ -1,4 +1,4 @@
--- The lines of an input. Assumes nothing.
+-- The lines of an input.
 use mathlib.Core.Path.{_≡_}
 use mathlib.Core.Bool.{cond}
 use mathlib.Core.List.{List, [], _∷_, _++_}

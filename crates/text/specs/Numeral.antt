@@ -1,4 +1,4 @@
--- Numbers written in decimal digits. Assumes nothing.
+-- Numbers written in decimal digits.
 use mathlib.Core.Path.{_≡_}
 use mathlib.Core.List.{List, [], _∷_}
 use Prim.Native.Nat.{ℕ, _+_, _-_, _*_, _^_, _<_, _≤_}

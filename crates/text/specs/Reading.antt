@@ -1,4 +1,4 @@
--- What a reader hands on. Assumes nothing.
+-- What a reader hands on.
 use mathlib.Core.Path.{_≡_}
 use mathlib.Core.List.{List, [], _∷_}
 use Prim.Native.Nat.{ℕ, _+_, _<_, _≤_}

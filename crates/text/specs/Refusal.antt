@@ -1,4 +1,4 @@
--- Why a line is refused. Assumes nothing.
+-- Why a line is refused.
 use Prim.Native.Nat.{ℕ}
 use Rattle.text.specs.declared.line.Reason.{Reason}
 use Rattle.text.specs.declared.line.Reason.the-variants.{Unreadable, NotDue, TooLong}

@@ -1,4 +1,5 @@
 pub mod Queue
 pub mod Sequential
+pub mod Refusals
 pub mod Places
 pub mod Law

@@ -8,15 +8,11 @@ use Rattle.std.specs.declared.option.Option.{Option}
 use Rattle.std.specs.declared.option.Option.the-variants.{Some, None}
 use Rattle.std.specs.declared.result.Result.{Result}
 use Rattle.std.specs.declared.result.Result.the-variants.{Ok, Err}
+use Rattle.window.specs.Refusals.{refusal-number}
 use Rattle.window.specs.Queue.{Queue, start, appended, Allowed, taken}
 use denote.Ref.{now}
 use Rattle.window.specs.declared.queue.WindowQueue.{WindowQueue}
 use Rattle.window.specs.declared.refusal.Refusal.{Refusal}
-use Rattle.window.specs.declared.refusal.Refusal.the-variants.{NoPlace, NotAllowed}
-
-abbrev pub refusal-number : Refusal → ℕ
-refusal-number NoPlace = 17
-refusal-number NotAllowed = 18
 
 -- the lent places, how many of them at the front are in use, the window, and k
 pub record Places (E : Type 0) : Type 0 where

@@ -3,4 +3,3 @@ pub mod limit;
 mod places;
 pub mod queue;
 pub mod refusal;
-pub mod refusal_number;
