@@ -8,3 +8,4 @@ pub mod Faults
 pub mod Limits
 pub mod Questions
 pub mod Refusals
+pub mod Asked

@@ -1,4 +1,5 @@
 // Histories: what an event is, which histories are well formed, and why one is refused.
+pub mod asked;
 pub mod event;
 pub mod formed;
 pub mod refusal;

@@ -1,13 +1,11 @@
 -- What the judge answers, where segments have k slots, there are n of them, and m working rows are lent.
 use mathlib.Core.Path.{_≡_}
-use mathlib.Core.List.{List, [], _∷_}
+use mathlib.Core.List.{List, _∷_}
 use Prim.Native.Nat.{ℕ, _≤_}
-use lib.ListN.{length}
 use Rattle.std.specs.declared.result.Result.{Result}
 use Rattle.std.specs.declared.result.Result.the-variants.{Ok, Err}
-use Rattle.history.specs.Calls.{puts-before}
-use Rattle.history.specs.WellFormed.{Formed}
-use Rattle.history.specs.Limits.{rows-used, cleared, SegmentFits, Short}
+use Rattle.history.specs.Asked.{history-questions}
+use Rattle.history.specs.Limits.{cleared, SegmentFits}
 use Rattle.history.specs.Questions.{Question, All-yes, First-no}
 use Rattle.history.specs.Refusals.{refusal-number, Names}
 use Rattle.history.specs.declared.event.Event.{Event}
@@ -24,11 +22,8 @@ SegmentsFit n = (2 ≤ n) × (n ≤ 64)
 abbrev pub judge-questions : ℕ → ℕ → List Event → ℕ → List Question
 judge-questions k n h m =
     record { asks = SegmentFits k; number = 1 }
-    ∷ record { asks = SegmentsFit n; number = 2 }
-    ∷ record { asks = Short h; number = 13 }
-    ∷ record { asks = Formed h; number = 14 }
-    ∷ record { asks = puts-before h (length h) ≤ rows-used m; number = 15 }
-    ∷ []
+    ∷ (record { asks = SegmentsFit n; number = 2 }
+    ∷ history-questions h m)
 
 -- a verdict where all are answered yes, else the refusal of the first that is answered no
 abbrev pub Answered : ℕ → ℕ → List Event → ℕ → Result Verdict Refusal → Type 0

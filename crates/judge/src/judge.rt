@@ -13,10 +13,9 @@ use super::row::Row;
 use super::seen::Seen;
 use super::step::step;
 use super::verdict::Verdict;
+use history::asked::ask;
 use history::event::Event;
-use history::formed::puts_begun;
 use history::refusal::Refusal;
-use history::rows::MOST;
 use history::rows::clear;
 use history::threads::LastEvents;
 
@@ -66,17 +65,7 @@ pub fn judge(history: &[Event], k: u32, segments: u32, rows: &mut [Row]) -> Resu
     if segments < 2 || segments > 64 {
         return Err(Refusal::Segments);
     }
-    if history.len() > MOST {
-        return Err(Refusal::TooLong);
-    }
-    let puts = match puts_begun(history) {
-        Ok(puts) => puts,
-        Err(event) => return Err(Refusal::Malformed(event)),
-    };
-    let used = rows.len().min(MOST);
-    if puts > used {
-        return Err(Refusal::TooFewRows);
-    }
+    let used = ask(history, rows.len())?;
     clear(rows, Row::BLANK);
     let verdict = run(history, k, segments, &mut rows[0..used]);
     clear(rows, Row::BLANK);

@@ -1,13 +1,13 @@
 -- What the replay answers.
 use mathlib.Core.Path.{_≡_}
-use mathlib.Core.List.{List, [], _∷_}
-use Prim.Native.Nat.{ℕ, suc, _≤_, _<_}
+use mathlib.Core.List.{List, [], _∷_, _++_}
+use Prim.Native.Nat.{ℕ, suc, _<_}
 use lib.ListN.{length}
 use Rattle.std.specs.declared.result.Result.{Result}
 use Rattle.std.specs.declared.result.Result.the-variants.{Ok, Err}
-use Rattle.history.specs.Calls.{Apart, puts-before}
-use Rattle.history.specs.WellFormed.{Formed}
-use Rattle.history.specs.Limits.{rows-used, cleared, SegmentFits, Short}
+use Rattle.history.specs.Asked.{history-questions}
+use Rattle.history.specs.Calls.{Apart}
+use Rattle.history.specs.Limits.{cleared, SegmentFits}
 use Rattle.history.specs.Questions.{Question, All-yes, First-no}
 use Rattle.history.specs.Refusals.{refusal-number, Names}
 use Rattle.history.specs.declared.event.Event.{Event}
@@ -16,15 +16,15 @@ use Rattle.replay.specs.Run.{Run}
 use Rattle.replay.specs.declared.outcome.Outcome.{Outcome}
 use Rattle.replay.specs.declared.outcome.Outcome.the-variants.{Whole, Stops}
 
+-- at most one call was in flight at a time
+abbrev pub overlap-question : List Event → Question
+overlap-question h = record { asks = Apart h (length h); number = 16 }
+
 -- of a history and the number of working rows
 abbrev pub replay-questions : ℕ → List Event → ℕ → List Question
 replay-questions k h rows =
     record { asks = SegmentFits k; number = 1 }
-    ∷ (record { asks = Short h; number = 13 }
-    ∷ (record { asks = Formed h; number = 14 }
-    ∷ (record { asks = puts-before h (length h) ≤ rows-used rows; number = 15 }
-    ∷ (record { asks = Apart h (length h); number = 16 }
-    ∷ []))))
+    ∷ (history-questions h rows ++ overlap-question h ∷ [])
 
 -- the number of each outcome; a stop names its event beside it
 abbrev pub outcome-number : Outcome → ℕ

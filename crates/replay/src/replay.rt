@@ -8,11 +8,10 @@ ghost use Rattle.replay.specs.Playing.{Ready, Playing, Fed};
 use super::alone::one_at_a_time;
 use super::outcome::Outcome;
 use super::play::play;
+use history::asked::ask;
 use history::event::Event;
 use history::event::Kind;
-use history::formed::puts_begun;
 use history::refusal::Refusal;
-use history::rows::MOST;
 use history::rows::clear;
 use window::limit::WindowLimit;
 use window::queue::WindowQueue;
@@ -67,17 +66,7 @@ pub fn replay(history: &[Event], k: u32, rows: &mut [u32]) -> Result<Outcome, Re
     let Some(limit) = WindowLimit::new(k) else {
         return Err(Refusal::SegmentSize);
     };
-    if history.len() > MOST {
-        return Err(Refusal::TooLong);
-    }
-    let puts = match puts_begun(history) {
-        Ok(puts) => puts,
-        Err(event) => return Err(Refusal::Malformed(event)),
-    };
-    let used = rows.len().min(MOST);
-    if puts > used {
-        return Err(Refusal::TooFewRows);
-    }
+    let used = ask(history, rows.len())?;
     if !one_at_a_time(history) {
         return Err(Refusal::Overlap);
     }

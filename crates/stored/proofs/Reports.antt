@@ -12,7 +12,8 @@ use Rattle.history.proofs.Questions.{not-both}
 use Rattle.judge.specs.Answers as judge
 use Rattle.judge.specs.declared.verdict.Verdict.{Verdict}
 use Rattle.stored.specs.Input.{Holds}
-use Rattle.stored.specs.Report.{history-questions, ReplayGiven, Tale, Declined}
+use Rattle.history.specs.Asked.{history-questions}
+use Rattle.stored.specs.Report.{ReplayGiven, Tale, Declined}
 use Rattle.stored.specs.declared.report.Replay.{Replay}
 
 -- the judge and the replay were handed this history and this many rows

@@ -1,13 +1,13 @@
 -- What is reported of a stored history.
 use mathlib.Core.Path.{_≡_}
-use mathlib.Core.List.{List, [], _∷_}
-use Prim.Native.Nat.{ℕ, _≤_}
+use mathlib.Core.List.{List}
+use Prim.Native.Nat.{ℕ}
 use lib.ListN.{length}
 use Rattle.std.specs.declared.result.Result.{Result}
 use Rattle.std.specs.declared.result.Result.the-variants.{Ok, Err}
-use Rattle.history.specs.Calls.{Apart, puts-before}
-use Rattle.history.specs.WellFormed.{Formed}
-use Rattle.history.specs.Limits.{most, rows-used, SegmentFits, Short}
+use Rattle.history.specs.Asked.{history-questions}
+use Rattle.history.specs.Calls.{Apart}
+use Rattle.history.specs.Limits.{most, SegmentFits}
 use Rattle.history.specs.Questions.{Question, All-yes, First-no}
 use Rattle.history.specs.Refusals.{refusal-number, Names}
 use Rattle.history.specs.declared.event.Event.{Event}
@@ -23,14 +23,6 @@ use Rattle.stored.specs.declared.fault.Fault.the-variants.{Bad, Refused, Memor
 use Rattle.stored.specs.declared.report.Replay.{Replay}
 use Rattle.stored.specs.declared.report.Replay.the-variants.{Whole, Stops, Overlap}
 use Rattle.stored.specs.declared.report.Report.{Report}
-
--- of a history and the number of working rows
-abbrev pub history-questions : List Event → ℕ → List Question
-history-questions h rows =
-    record { asks = Short h; number = 13 }
-    ∷ (record { asks = Formed h; number = 14 }
-    ∷ (record { asks = puts-before h (length h) ≤ rows-used rows; number = 15 }
-    ∷ []))
 
 -- what the replay tells of a history
 abbrev pub Tells : ℕ → List Event → Replay → Type 0
