@@ -8,7 +8,7 @@ use native.Mathlib.Numerals.{add-one}
 use native.Mathlib.Omega.{arith}
 use lib.ListN.{length, take, drop}
 use Rattle.std.specs.shelf.Lists.{between}
-use Rattle.std.proofs.shelf.Lists.{append-nil, append-assoc, length-append, drop-more, nil-from-length}
+use Rattle.std.proofs.shelf.Lists.{append-nil, append-assoc, length-append, length-push, drop-more, nil-from-length}
 use Rattle.std.proofs.shelf.Edits.{between-none, between-more}
 use Rattle.history.specs.Events.{event-at, nothing, is}
 use Rattle.history.specs.declared.event.Event.{Event}
@@ -21,7 +21,7 @@ use Rattle.window.specs.Sequential.{Dequeues}
 use Rattle.replay.specs.Run.{Does, Run}
 use Rattle.replay.specs.Playing.{accepted-item, accepted-items, accepted-from, Ready, Playing, Fed, Moves, Plays}
 use Rattle.replay.proofs.Counted.{accepted-few}
-use Rattle.replay.proofs.Runs.{run-window, run-length, runs-agree, run-more}
+use Rattle.replay.proofs.Runs.{does-length, run-window, run-length, runs-agree, run-more}
 use Rattle.replay.proofs.Front.{dequeue-whole, dequeue-front}
 
 -- THE ITEMS THAT WAIT
@@ -56,10 +56,20 @@ waiting-first h fed i lt in-h =
 waiting-none : (h : List Event) (i : ℕ) → accepted-from h i i ≡ []
 waiting-none h i = ap accepted-items (between-none h i)
 
+-- what is played makes the front no longer
+moves-length : (k : ℕ) (e : Kind) (x : ℕ) (s t : Queue ℕ) → Moves k e x s t → length (t .q) ≤ length (s .q)
+moves-length k PutBegun x s t m = omega (arith, does-length k PutBegun x s t m)
+moves-length k TakeBegun x s t m = omega (arith, does-length k TakeBegun x s t m)
+moves-length k Accepted x s t m = omega (arith, ap (λ (u : Queue ℕ). length (u .q)) m)
+moves-length k Full x s t m = omega (arith, does-length k Full x s t m)
+moves-length k HandedOut x s t m = omega (arith, does-length k HandedOut x s t m)
+moves-length k Empty x s t m = omega (arith, does-length k Empty x s t m)
+
 -- AT FIRST
 
 pub playing-at-first : (k : ℕ) (h : List Event) (c : Places ℕ) → queue c ≡ start k → c .k ≡ k → Playing k h 0 0 c
 playing-at-first k h c e s = record {
+  few = omega (arith, ap (λ (u : Queue ℕ). length (u .q)) e);
   fed-le = omega arith;
   run = record { states = λ _. start k; starts = refl; goes = λ j lt. absurd (omega arith) };
   state = sym (ap (λ (u : Queue ℕ). record { q = u .q ++ []; w = u .w }) e);
@@ -75,14 +85,15 @@ module _ (k : ℕ) (h : List Event) (i fed : ℕ) (c : Places ℕ) (within : i <
     run = P .run;
     state = P .state ∙ ap (λ l. record { q = queue c .q ++ l; w = c .w }) (waiting-first h fed i lt (omega arith) ∙ ap (λ l. l ++ accepted-from h (fed + 1) i) e);
     k-is = P .k-is;
+    few = P .few;
   }
 
   module _ (lt : fed < i) (x : ℕ) (one : accepted-item (event-at h fed .kind) (event-at h fed .item) ≡ x ∷ []) where
     held : P .run .states i .q ≡ queue c .q ++ (x ∷ accepted-from h (fed + 1) i)
     held = ap (λ (u : Queue ℕ). u .q) (P .state) ∙ ap (λ l. queue c .q ++ l) (waiting-first h fed i lt (omega arith) ∙ ap (λ l. l ++ accepted-from h (fed + 1) i) one)
 
-    pub feed-one : (d : Places ℕ) → queue d ≡ record { q = queue c .q ++ x ∷ []; w = c .w } → d .k ≡ c .k → Playing k h i (fed + 1) d
-    feed-one d e s = record {
+    pub feed-one : length (queue c .q) < k → (d : Places ℕ) → queue d ≡ record { q = queue c .q ++ x ∷ []; w = c .w } → d .k ≡ c .k → Playing k h i (fed + 1) d
+    feed-one short d e s = record {
       fed-le = omega arith;
       run = P .run;
       state =
@@ -90,6 +101,7 @@ module _ (k : ℕ) (h : List Event) (i fed : ℕ) (c : Places ℕ) (within : i <
           ∙ (ap (λ v. record { q = (queue c .q ++ x ∷ []) ++ accepted-from h (fed + 1) i; w = v }) (ap (λ (u : Queue ℕ). u .w) (P .state))
           ∙ sym (ap (λ (u : Queue ℕ). record { q = u .q ++ accepted-from h (fed + 1) i; w = u .w }) e));
       k-is = s ∙ P .k-is;
+      few = omega (arith, ap (λ (u : Queue ℕ). length (u .q)) e, length-push (queue c .q) x);
     }
 
     -- a place is unused: there are rows for all items
@@ -176,6 +188,7 @@ module _ (k : ℕ) (h : List Event) (i fed : ℕ) (c : Places ℕ) (within : i <
         run = more .0;
         state = more .1 ∙ ap (λ l. record { q = queue d .q ++ l; w = d .w }) (sym waits);
         k-is = p .1 .0 ∙ P .k-is;
+        few = omega (arith, P .few, moves-length k kind-i item-i (queue c) (queue d) moves);
       })
 
   pub play-stops : (d : Places ℕ) → Plays kind-i item-i c false d → Run k h (suc i) → ⊥

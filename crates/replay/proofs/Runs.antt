@@ -47,7 +47,7 @@ run-window k h n r one (suc j) le =
 
 -- THE LIST has no more elements than were accepted
 
-does-length : (k : ℕ) (e : Kind) (x : ℕ) (s t : Queue ℕ) → Does k e x s t → length (t .q) ≤ length (s .q) + length (accepted-item e x)
+pub does-length : (k : ℕ) (e : Kind) (x : ℕ) (s t : Queue ℕ) → Does k e x s t → length (t .q) ≤ length (s .q) + length (accepted-item e x)
 does-length k PutBegun x s t d = omega (arith, ap (λ (u : Queue ℕ). length (u .q)) d)
 does-length k TakeBegun x s t d = omega (arith, ap (λ (u : Queue ℕ). length (u .q)) d)
 does-length k Accepted x s t d = omega (arith, ap length (d .0), length-push (s .q) x)

@@ -49,6 +49,8 @@ pub record Playing (k : ℕ) (h : List Event) (i fed : ℕ) (c : Places ℕ) : T
   pub run : Run k h i
   pub state : run .states i ≡ record { q = queue c .q ++ accepted-from h fed i; w = c .w }
   pub k-is : c .k ≡ k
+  -- what keeps a take's cost within k
+  pub few : length (queue c .q) ≤ k
 
 -- the queue in the rows reaches as far as a take may, or is whole
 pub record Fed (k : ℕ) (h : List Event) (i fed : ℕ) (c : Places ℕ) : Type 0 where
@@ -56,7 +58,7 @@ pub record Fed (k : ℕ) (h : List Event) (i fed : ℕ) (c : Places ℕ) : Type 
   pub playing : Playing k h i fed c
   pub reaches : (k ≤ length (queue c .q)) ⊎ (fed ≡ i)
 
--- the first place where x stands, as far as the window reaches
+-- a place where x stands, as far as the window reaches
 abbrev pub PlaceOf : Queue ℕ → ℕ → Option ℕ → Type 0
 PlaceOf s x (Some i) = Stands ℕ s i x × (i ≤ s .w)
 PlaceOf s x None = (i : ℕ) → Stands ℕ s i x → s .w < i

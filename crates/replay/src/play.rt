@@ -6,7 +6,7 @@ use history::event::Event;
 use history::event::Kind;
 use window::queue::WindowQueue;
 
-// The first place within the window where an item stands, counted from 1.
+// A place within the window where an item stands, counted from 1.
 fn place_of(waiting: &WindowQueue<u32>, item: u32) -> Option<usize>
     ensures { λ r. ⌜ PlaceOf (queue (content (now (waiting .entry)))) item r ⌝ }
 {

@@ -38,7 +38,7 @@ loop-at-again c =
           let done = w .in-Ok .ensures tt in
           subst (λ (s : WindowQueue ℕ). Ready k h (length (content s .places)) × Playing k h i (at + 1) (content s)) (sym (w .waiting-is)) (
             subst (Ready k h) (sym (ap length (done .1 .1 .0) ∙ length-set (old .places) (length (queue old .q)) x)) (c .loop-at .inv .0),
-            feed-one k h i at old (c .pre .within) P lt x (ap (λ e. accepted-item e x) (w .in-Accepted .is)) (content (w .append .last .self)) (done .1 .0) (done .1 .1 .1),
+            feed-one k h i at old (c .pre .within) P lt x (ap (λ e. accepted-item e x) (w .in-Accepted .is)) (omega (arith, c .if-len-k .taken, c .k .ensures, c .len .ensures)) (content (w .append .last .self)) (done .1 .0) (done .1 .1 .1),
           ))
       | in-rest w ↦ subst (λ (s : WindowQueue ℕ). Ready k h (length (content s .places)) × Playing k h i (at + 1) (content s)) (sym (w .waiting-is))
           (c .loop-at .inv .0, feed-other k h i at old (c .pre .within) P lt (not-accepted (event-at h at .kind) x (w .in-rest .not-Accepted)))
