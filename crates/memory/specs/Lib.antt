@@ -1,0 +1,5 @@
+pub mod Mem
+pub mod Tags
+pub mod Laws
+pub mod Consequences
+pub mod Words
