@@ -1,0 +1,3 @@
+pub mod RingFacts
+pub mod SearchFacts
+pub mod CallFacts

@@ -1,0 +1,13 @@
+pub mod Tags
+pub mod Answers
+pub mod Configs
+pub mod Ring
+pub mod RingLaw
+pub mod Probes
+pub mod SearchLaw
+pub mod Rows
+pub mod PutTable
+pub mod CheckTable
+pub mod TakeTable
+pub mod Calls
+pub mod CallLaw
