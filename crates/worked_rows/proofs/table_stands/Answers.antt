@@ -8,5 +8,5 @@ returns c =
       fresh_put = record { goes_on = refl; answers = refl };
       second_put = record { goes_on = refl; answers = refl };
       third_put = record { goes_on = refl; answers = refl };
-      judged = c.worked-rows-stand.ensures;
+      judged = c.worked_rows_stand.ensures;
     }

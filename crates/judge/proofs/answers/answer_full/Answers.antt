@@ -4,8 +4,8 @@ use Rattle.judge.proofs.Fulls.{full_1, full_5, full_clean, full_next}
 use Rattle.judge.proofs.answers.answer_full.Goals as goal
 use Rattle.judge.proofs.answers.answer_full.Goals.{else-not-crossed-via-then-not-crossed+else-seen-segments, else-not-crossed-via-else-not-crossed}
 
-pub overflow-sub-m : goal.overflow-sub-m
-overflow-sub-m c = (answer_place _ _ _ _ _ c.requires.ready c.requires.items 4 (inr refl) c.requires.four).0
+pub overflow_sub-m : goal.overflow_sub-m
+overflow_sub-m c = (answer_place _ _ _ _ _ c.requires.ready c.requires.items 4 (inr refl) c.requires.four).0
 
 pub bounds-rows-m : goal.bounds-rows-m
 bounds-rows-m c = (answer_place _ _ _ _ _ c.requires.ready c.requires.items 4 (inr refl) c.requires.four).1

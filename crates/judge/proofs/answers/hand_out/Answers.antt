@@ -17,8 +17,8 @@ returns-then-row-eq0 c n =
       | then-row-eq0-via-else-row-eq0+else-row+then-row-2 w ↦ low (was_handed _ _ _ _ _ c.requires.ready c.requires.items c.requires.five p w.if-row-2.true)
     ]
 
-pub hand-out-fresh-requires : goal.hand-out-fresh-requires
-hand-out-fresh-requires c = record {
+pub hand_out_fresh-requires : goal.hand_out_fresh-requires
+hand_out_fresh-requires c = record {
   ready = c.requires.ready;
   items = c.requires.items;
   five = c.requires.five;

@@ -24,8 +24,8 @@ module _ (rows rows' : List Row) (u : ℕ) (used : u ≡ rows_used (length rows)
 
 pub run-verdict-requires : goal.run-verdict-requires
 run-verdict-requires c =
-    let u = c.in-ok-used.used in
-    let asked = c.in-ok-used.ensures in
+    let u = c.in_ok-used.used in
+    let asked = c.in_ok-used.ensures in
     let len : length (take (u - 0) c.clear.new.rows) ≡ u = length-take-le (u - 0) c.clear.new.rows (omega (arith, c.clear.auto.rows)) ∙ omega arith in
     record {
       limits = ((c.if-k-lt1.false, c.if-k-gt64.false), (c.if-segments-lt2.false, c.if-segments-gt64.false));
@@ -37,8 +37,8 @@ run-verdict-requires c =
 
 pub returns : goal.returns
 returns c =
-    let u = c.in-ok-used.used in
-    let asked = c.in-ok-used.ensures in
+    let u = c.in_ok-used.used in
+    let asked = c.in_ok-used.ensures in
     let len : length (take (u - 0) c.clear.new.rows) ≡ u - 0 = length-take-le (u - 0) c.clear.new.rows (omega (arith, c.clear.auto.rows)) in
     record {
       answer = (
@@ -50,10 +50,10 @@ returns c =
           ∙ cleared_twice c.args.rows.now c.clear.new.rows u asked.1 c.clear.ensures;
     }
 
-pub returns-in-err-used : goal.returns-in-err-used
-returns-in-err-used c =
-    let p = err_from_is_err_and c.from-residual.result c.from-residual.ensures.1 in
-    let asked = c.in-err-used.ensures in
+pub returns-in_err-used : goal.returns-in_err-used
+returns-in_err-used c =
+    let p = err_from_is_err_and c.from_residual.result c.from_residual.ensures.1 in
+    let asked = c.in_err-used.ensures in
     let is_err = sym (p.1 ∙ ap (λ (r : Refusal). Err r) p.2) in
     let rows = c.args.rows.now in
     record {

@@ -25,7 +25,7 @@ step-requires c = record {
 }
 
 pub loop-i-preserved : goal.loop-i-preserved
-loop-i-preserved c = (c.in-default.ensures.1, (c.after-flights.ensures, below_more _ _ c.loop-i.invariant.1.1 c.in-default.ensures.0))
+loop-i-preserved c = (c.in_default.ensures.1, (c.after-flights.ensures, below_more _ _ c.loop-i.invariant.1.1 c.in_default.ensures.0))
 
 pub returns : goal.returns
 returns c = λ i lt. c.loop-i.invariant.1.1 i (omega arith)

@@ -8,20 +8,20 @@ use Rattle.judge.proofs.Others.{put_place, answer_place, put_next, take_next, ac
 use Rattle.judge.proofs.step.step.Goals as goal
 use Rattle.judge.proofs.step.step.Goals.{then-not-rows-place, else-not-rows-place}
 
-pub overflow-sub-rows : goal.overflow-sub-rows
-overflow-sub-rows c = (put_place _ _ _ _ _ c.requires.ready c.requires.items (ap kind_number c.in-PutBegun.is)).0
+pub overflow_sub-rows : goal.overflow_sub-rows
+overflow_sub-rows c = (put_place _ _ _ _ _ c.requires.ready c.requires.items (ap kind_number c.in-PutBegun.is)).0
 
 pub bounds-rows-e : goal.bounds-rows-e
 bounds-rows-e c = (put_place _ _ _ _ _ c.requires.ready c.requires.items (ap kind_number c.in-PutBegun.is)).1
 
-pub overflow-sub-place : goal.overflow-sub-place
-overflow-sub-place c = (answer_place _ _ _ _ _ c.requires.ready c.requires.items 3 (inl refl) (ap kind_number c.in-Accepted.is)).0
+pub overflow_sub-place : goal.overflow_sub-place
+overflow_sub-place c = (answer_place _ _ _ _ _ c.requires.ready c.requires.items 3 (inl refl) (ap kind_number c.in-Accepted.is)).0
 
 pub bounds-rows-place : goal.bounds-rows-place
 bounds-rows-place c = (answer_place _ _ _ _ _ c.requires.ready c.requires.items 3 (inl refl) (ap kind_number c.in-Accepted.is)).1
 
-pub overflow-add-seen : goal.overflow-add-seen
-overflow-add-seen c = omega (arith, c.requires.items.held_is, count_le (holds c.args.history.now c.args.i) c.args.i, c.requires.ready.short, c.requires.ready.within)
+pub overflow_add-seen : goal.overflow_add-seen
+overflow_add-seen c = omega (arith, c.requires.items.held_is, count_le (holds c.args.history.now c.args.i) c.args.i, c.requires.ready.short, c.requires.ready.within)
 
 pub bounds-rows-place-in-Accepted : goal.bounds-rows-place-in-Accepted
 bounds-rows-place-in-Accepted c = (answer_place _ _ _ _ _ c.requires.ready c.requires.items 3 (inl refl) (ap kind_number c.in-Accepted.is)).1
@@ -47,7 +47,7 @@ returns-after-not-rows-place c =
     )
 
 pub returns-in-HandedOut : goal.returns-in-HandedOut
-returns-in-HandedOut c = c.hand-out.ensures c.args.segments
+returns-in-HandedOut c = c.hand_out.ensures c.args.segments
 
 pub returns-in-Empty : goal.returns-in-Empty
-returns-in-Empty c = c.answer-empty.ensures c.args.segments
+returns-in-Empty c = c.answer_empty.ensures c.args.segments

@@ -6,10 +6,10 @@ use Rattle.history.proofs.Facts.{kind_if, answered_few}
 use Rattle.judge.specs.Rows.{blank}
 use Rattle.judge.proofs.Known.{free_holds}
 use Rattle.judge.proofs.walk.first_held.Goals as goal
-use Rattle.judge.proofs.walk.first_held.Goals.{in-Accepted+else-not-rows-m, in-default}
+use Rattle.judge.proofs.walk.first_held.Goals.{in-Accepted+else-not-rows-m, in_default}
 
-pub overflow-sub-m : goal.overflow-sub-m
-overflow-sub-m c = (answered_few c.args.history.now c.requires.formed 3 c.loop-q.q (inl refl) (omega arith) (ap kind_number c.in-Accepted.is)).0
+pub overflow_sub-m : goal.overflow_sub-m
+overflow_sub-m c = (answered_few c.args.history.now c.requires.formed 3 c.loop-q.q (inl refl) (omega arith) (ap kind_number c.in-Accepted.is)).0
 
 pub bounds-rows-m : goal.bounds-rows-m
 bounds-rows-m c = let a = answered_few c.args.history.now c.requires.formed 3 c.loop-q.q (inl refl) (omega arith) (ap kind_number c.in-Accepted.is) in omega (arith, a.0, a.1)
@@ -30,5 +30,5 @@ loop-q-preserved c =
     let e = free_holds h c.args.i rows c.requires.formed c.requires.within c.requires.fit c.requires.rows_are q c.loop-q-test.true in
     below_more _ _ c.loop-q.invariant (elim c.match-history-q.branch [
       | in-Accepted+else-not-rows-m w ↦ sym e ∙ and_right (is 3 h q) (not (get_or rows (item_at h q - 1) blank).handed) (not_from_true (get_or rows (item_at h q - 1) blank).handed w.if-not-rows-m.false)
-      | in-default w ↦ and_left (is 3 h q) (held h c.args.i (item_at h q)) (ne_eqb (kind_at h q) 3 (λ z. w.in-default.not-Accepted (kind_if _ 3 z)))
+      | in_default w ↦ and_left (is 3 h q) (held h c.args.i (item_at h q)) (ne_eqb (kind_at h q) 3 (λ z. w.in_default.not-Accepted (kind_if _ 3 z)))
     ])

@@ -6,20 +6,20 @@ use Rattle.history.proofs.Facts.{kind_if}
 use Rattle.judge.specs.Walk.{free}
 use Rattle.judge.specs.declared.row.Row.{Row}
 use Rattle.judge.proofs.Walks.{go_start, go_other, go_handed, go_pass, turn, go_as}
-use Rattle.judge.proofs.walk.pass.Goals.{in-Accepted+then-not-row+else-row-k, in-Accepted+else-not-row, in-default}
+use Rattle.judge.proofs.walk.pass.Goals.{in-Accepted+then-not-row+else-row-k, in-Accepted+else-not-row, in_default}
 use Rattle.judge.proofs.walk.pass.Goals as goal
 
 pub loop-q-init : goal.loop-q-init
 loop-q-init c = go_start c.args.k c.args.history.now c.args.rows.now c.min-q.result (λ j lt. c.requires.none_older j (omega arith))
 
-pub overflow-sub-m : goal.overflow-sub-m
-overflow-sub-m c = (turn _ _ _ _ _ _ _ _ c.requires c.loop-q-test.true (ap kind_number c.in-Accepted.is) c.loop-q.invariant).pos
+pub overflow_sub-m : goal.overflow_sub-m
+overflow_sub-m c = (turn _ _ _ _ _ _ _ _ c.requires c.loop-q-test.true (ap kind_number c.in-Accepted.is) c.loop-q.invariant).pos
 
 pub slice-copy-out·row : goal.slice-copy-out·row
 slice-copy-out·row c = let t = turn _ _ _ _ _ _ _ _ c.requires c.loop-q-test.true (ap kind_number c.in-Accepted.is) c.loop-q.invariant in omega (arith, t.in_rows)
 
-pub overflow-add-row : goal.overflow-add-row
-overflow-add-row c = let t = turn _ _ _ _ _ _ _ _ c.requires c.loop-q-test.true (ap kind_number c.in-Accepted.is) c.loop-q.invariant in omega (arith, t.few (not-true _ c.if-not-row.true))
+pub overflow_add-row : goal.overflow_add-row
+overflow_add-row c = let t = turn _ _ _ _ _ _ _ _ c.requires c.loop-q-test.true (ap kind_number c.in-Accepted.is) c.loop-q.invariant in omega (arith, t.few (not-true _ c.if-not-row.true))
 
 pub returns-then-row-k : goal.returns-then-row-k
 returns-then-row-k c =
@@ -29,8 +29,8 @@ returns-then-row-k c =
 pub bounds-rows-m : goal.bounds-rows-m
 bounds-rows-m c = let t = turn _ _ _ _ _ _ _ _ c.requires c.loop-q-test.true (ap kind_number c.in-Accepted.is) c.loop-q.invariant in omega (arith, t.in_rows)
 
-pub overflow-add-older : goal.overflow-add-older
-overflow-add-older c = omega (arith, c.loop-q.invariant.0, count_le (free c.args.history.now c.args.rows.now) c.loop-q.q, c.requires.within, c.requires.short, c.loop-q-test.true)
+pub overflow_add-older : goal.overflow_add-older
+overflow_add-older c = omega (arith, c.loop-q.invariant.0, count_le (free c.args.history.now c.args.rows.now) c.loop-q.q, c.requires.within, c.requires.short, c.loop-q-test.true)
 
 pub loop-q-preserved : goal.loop-q-preserved
 loop-q-preserved c =
@@ -42,5 +42,5 @@ loop-q-preserved c =
       | in-Accepted+else-not-row w ↦
           let t = turn k h rows₀ _ _ q o rows c.requires c.loop-q-test.true (ap kind_number w.in-Accepted.is) c.loop-q.invariant in
           go_as k h rows₀ (q + 1) _ _ _ _ w.older-is w.rows-is (go_handed k h rows₀ c.requires.formed q o rows t.in_h t.three t.pos t.in_rows c.loop-q.invariant (not-false _ w.if-not-row.false))
-      | in-default w ↦ go_as k h rows₀ (q + 1) _ _ _ _ w.older-is w.rows-is (go_other k h rows₀ q o rows (λ e. w.in-default.not-Accepted (kind_if _ 3 e)) c.loop-q.invariant)
+      | in_default w ↦ go_as k h rows₀ (q + 1) _ _ _ _ w.older-is w.rows-is (go_other k h rows₀ q o rows (λ e. w.in_default.not-Accepted (kind_if _ 3 e)) c.loop-q.invariant)
     ]

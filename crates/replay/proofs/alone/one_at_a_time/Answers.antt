@@ -3,7 +3,7 @@ use Rattle.std.proofs.lemmas.Bool.{both_ways}
 use Rattle.history.specs.Events.{event_at}
 use Rattle.replay.proofs.OneAtATime.{Alone, begins_from, answers_from, alone_at_first, alone_begin, alone_answer, begin_overlaps}
 use Rattle.replay.proofs.alone.one_at_a_time.Goals as goal
-use Rattle.replay.proofs.alone.one_at_a_time.Goals.{in-PutBegun+else-busy, in-default}
+use Rattle.replay.proofs.alone.one_at_a_time.Goals.{in-PutBegun+else-busy, in_default}
 
 pub loop-event-init : goal.loop-event-init
 loop-event-init c = alone_at_first c.args.history.now
@@ -25,8 +25,8 @@ loop-event-preserved c =
     elim c.match-event.branch [
       | in-PutBegun+else-busy w ↦ subst (λ (b : Bool). Alone h (i + 1) b) (sym w.busy-is)
           (alone_begin h i f (begins_from (event_at h i).kind w.in-PutBegun.is) (subst (λ (b : Bool). Alone h i b) w.if-busy.false c.loop-event.invariant))
-      | in-default w ↦ subst (λ (b : Bool). Alone h (i + 1) b) (sym w.busy-is)
-          (alone_answer h i f c.loop-event.busy (answers_from (event_at h i).kind w.in-default.not-PutBegun w.in-default.not-TakeBegun) c.loop-event.invariant)
+      | in_default w ↦ subst (λ (b : Bool). Alone h (i + 1) b) (sym w.busy-is)
+          (alone_answer h i f c.loop-event.busy (answers_from (event_at h i).kind w.in_default.not-PutBegun w.in_default.not-TakeBegun) c.loop-event.invariant)
     ]
 
 pub returns : goal.returns

@@ -6,7 +6,7 @@ pub returns-in-Some : goal.returns-in-Some
 returns-in-Some c =
     let found = c.in-Some.ensures in
     plays_take c.args.event.kind c.in-HandedOut.is c.args.event.item (content c.args.waiting.now) c.requires
-    c.in-Some.i found.0 found.1 (content c.take-at.new.self) c.take-at.result c.take-at.ensures c.is-ok.result c.is-ok.ensures.value
+    c.in-Some.i found.0 found.1 (content c.take_at.new.self) c.take_at.result c.take_at.ensures c.is_ok.result c.is_ok.ensures.value
 
 pub returns-in-None : goal.returns-in-None
 returns-in-None c = plays_nothing c.args.event.kind c.in-HandedOut.is c.args.event.item (content c.args.waiting.now) c.requires c.in-None.ensures

@@ -6,7 +6,7 @@ use Rattle.window.specs.declared.queue.WindowQueue.{WindowQueue}
 use Rattle.replay.specs.Playing.{accepted_item, Ready, Playing}
 use Rattle.replay.proofs.Plays.{feed_other, feed_one, has_place, not_accepted}
 use Rattle.replay.proofs.replay.feed.Goals as goal
-use Rattle.replay.proofs.replay.feed.Goals.{in-Accepted+in-Ok, in-default}
+use Rattle.replay.proofs.replay.feed.Goals.{in-Accepted+in-Ok, in_default}
 
 pub loop-at-init : goal.loop-at-init
 loop-at-init c = (c.requires.ready, c.requires.playing)
@@ -17,7 +17,7 @@ unreachable-requires c =
     let at = c.loop-at.at in
     let x = (event_at h at).item in
     let room = has_place c.args.limit.k h c.args.i at (content c.loop-at.waiting) c.requires.within c.loop-at.invariant.1 c.loop-at-test.true x (ap (λ k. accepted_item k x) c.in-Accepted.is) _ c.loop-at.invariant.0 in
-    omega (arith, room, c.in-default-append.ensures.0)
+    omega (arith, room, c.in_default-append.ensures.0)
 
 pub loop-at-preserved : goal.loop-at-preserved
 loop-at-preserved c =
@@ -36,8 +36,8 @@ loop-at-preserved c =
             subst (Ready k h) (sym (ap length done.1.1.0 ∙ length-set old.places (length (queue old).q) x)) c.loop-at.invariant.0,
             feed_one k h i at old c.requires.within P lt x (ap (λ e. accepted_item e x) w.in-Accepted.is) (omega (arith, c.if-len-k.true, c.k.ensures, c.len.ensures)) (content w.append.new.self) done.1.0 done.1.1.1,
           ))
-      | in-default w ↦ subst (λ (s : WindowQueue ℕ). Ready k h (length (content s).places) × Playing k h i (at + 1) (content s)) (sym w.waiting-is)
-          (c.loop-at.invariant.0, feed_other k h i at old c.requires.within P lt (not_accepted (event_at h at).kind x w.in-default.not-Accepted))
+      | in_default w ↦ subst (λ (s : WindowQueue ℕ). Ready k h (length (content s).places) × Playing k h i (at + 1) (content s)) (sym w.waiting-is)
+          (c.loop-at.invariant.0, feed_other k h i at old c.requires.within P lt (not_accepted (event_at h at).kind x w.in_default.not-Accepted))
     ]
 
 pub returns-else-len-k : goal.returns-else-len-k

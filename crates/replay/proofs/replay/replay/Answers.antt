@@ -13,22 +13,22 @@ returns c =
     let h = c.args.history.now in
     let limit = c.in-Some.limit in
     let k_is = c.in-Some.ensures in
-    let asked = c.in-ok-used.ensures in
+    let asked = c.in_ok-used.ensures in
     record {
       answer = (
         (
           (omega (arith, k_is, limit.some), omega (arith, k_is, limit.few)),
-          (asked.0.0, (asked.0.1.0, (asked.0.1.1.0, (c.if-not-one-at-a-time.ensures.0 refl, tt)))),
+          (asked.0.0, (asked.0.1.0, (asked.0.1.1.0, (c.if-not-one_at_a_time.ensures.0 refl, tt)))),
         ),
         subst (λ (n : ℕ). Replays n h c.run-outcome.result) k_is c.run-outcome.ensures,
       );
-      rows = c.clear.ensures ∙ cleared_front 0 c.args.rows.now c.run-outcome.new.rows (c.in-ok-used.used - 0) (omega (arith, asked.1)) (omega arith);
+      rows = c.clear.ensures ∙ cleared_front 0 c.args.rows.now c.run-outcome.new.rows (c.in_ok-used.used - 0) (omega (arith, asked.1)) (omega arith);
     }
 
-pub returns-in-err-used : goal.returns-in-err-used
-returns-in-err-used c =
-    let p = err_from_is_err_and c.from-residual.result c.from-residual.ensures.1 in
-    let asked = c.in-err-used.ensures in
+pub returns-in_err-used : goal.returns-in_err-used
+returns-in_err-used c =
+    let p = err_from_is_err_and c.from_residual.result c.from_residual.ensures.1 in
+    let asked = c.in_err-used.ensures in
     let is_err = sym (p.1 ∙ ap (λ (r : Refusal). Err r) p.2) in
     let h = c.args.history.now in
     let rows = c.args.rows.now in

@@ -12,9 +12,9 @@ returns-in-Malformed c =
     IfOk-weaker c.format.result (λ s. string_bytes s ≡ text c.number-number.result) (λ s. string_bytes s ≡ refused_text r)
     (λ s e. e ∙ (ap text (c.number-number.ensures ∙ ap refusal_number c.in-Malformed.is) ∙ sym (ap refused_text c.in-Malformed.is))) c.format.ensures.ok
 
-pub returns-in-default : goal.returns-in-default
-returns-in-default c =
+pub returns-in_default : goal.returns-in_default
+returns-in_default c =
     let r = c.args.refusal in
     let text : ℕ → List ℕ = λ n. codes "refused=" ++ (decimal n ++ newline) in
-    IfOk-weaker c.format-in-default.result (λ s. string_bytes s ≡ text c.number-number.result) (λ s. string_bytes s ≡ refused_text r)
-    (λ s e. e ∙ (ap text c.number-number.ensures ∙ ap (λ l. codes "refused=" ++ (decimal (refusal_number r) ++ l)) (sym (names_nothing r c.in-default.not-Malformed)))) c.format-in-default.ensures.ok
+    IfOk-weaker c.format-in_default.result (λ s. string_bytes s ≡ text c.number-number.result) (λ s. string_bytes s ≡ refused_text r)
+    (λ s e. e ∙ (ap text c.number-number.ensures ∙ ap (λ l. codes "refused=" ++ (decimal (refusal_number r) ++ l)) (sym (names_nothing r c.in_default.not-Malformed)))) c.format-in_default.ensures.ok

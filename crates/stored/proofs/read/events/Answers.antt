@@ -9,11 +9,11 @@ pub loop-reader-preserved : goal.loop-reader-preserved
 loop-reader-preserved c =
     let from = c.args.reader.now in
     let s = c.loop-reader.reader in
-    let t = c.next-line.new.self in
+    let t = c.next_line.new.self in
     let line = c.in-Some.line in
-    let pushed = c.in-ok-push.ensures in
-    let hands : Hands s line t = subst (λ (o : Option Line). NextLine s (Ok o) t) c.in-Some.is c.in-ok-line.ensures in (
+    let pushed = c.in_ok-push.ensures in
+    let hands : Hands s line t = subst (λ (o : Option Line). NextLine s (Ok o) t) c.in-Some.is c.in_ok-line.ensures in (
       subst (λ (es : List Event). SoFar (left from) from.number t es) (sym pushed.items)
-          (so_far_more (left from) from.number s (vec_items c.loop-reader.events) c.loop-reader.invariant.0 line t c.in-ok-e.e hands c.in-ok-e.ensures),
+          (so_far_more (left from) from.number s (vec_items c.loop-reader.events) c.loop-reader.invariant.0 line t c.in_ok-e.e hands c.in_ok-e.ensures),
       omega (arith, pushed.len, c.len.ensures, c.loop-reader-test.true),
     )

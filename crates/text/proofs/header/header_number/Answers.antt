@@ -7,17 +7,17 @@ use Rattle.text.specs.declared.line.Reason.TheVariants.{Unreadable}
 use Rattle.text.proofs.Headers.{no_header}
 use Rattle.text.proofs.header.header_number.Goals as goal
 
-pub returns-in-default-number : goal.returns-in-default-number
-returns-in-default-number c =
+pub returns-in_default-number : goal.returns-in_default-number
+returns-in_default-number c =
     let s = c.args.reader.now in
     let line = c.in-Some.line in
     let key = c.args.key.now in
-    let hands : Hands s line c.next-line.new.self = subst (λ (o : Option Line). NextLine s (Ok o) c.next-line.new.self) c.in-Some.is c.in-ok-line.ensures in
+    let hands : Hands s line c.next_line.new.self = subst (λ (o : Option Line). NextLine s (Ok o) c.next_line.new.self) c.in-Some.is c.in_ok-line.ensures in
     let cut = c.in-Some-after.ensures in
     subst (λ (ls : List (List ℕ)). BadFirst c.args.at key (s.number + 1) ls c.unreadable.result) (sym hands.first) (inr (
       hands.short,
       inr (
         (c.in-Some-after.value.now, cut),
-        (no_header key line.bytes.now c.in-Some-after.value.now cut c.in-default-number.ensures, c.unreadable.ensures ∙ ap (λ n. refusal n Unreadable) hands.numbered),
+        (no_header key line.bytes.now c.in-Some-after.value.now cut c.in_default-number.ensures, c.unreadable.ensures ∙ ap (λ n. refusal n Unreadable) hands.numbered),
       ),
     ))

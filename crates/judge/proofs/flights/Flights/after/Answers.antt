@@ -29,13 +29,13 @@ module _ (h : List Event) (i : ℕ) (F : Formed h) (in_h : i < length h) (table 
 pub returns-then-self : goal.returns-then-self
 returns-then-self c = record {
   lasts = noted _ _ c.requires.formed c.requires.within c.args.threads.now c.note.new.self _ c.requires.flights c.note.ensures;
-  count_is = c.count-after-count.ensures;
+  count_is = c.count_after-count.ensures;
   crossed_is = crossed_then _ _ c.requires.formed c.requires.within c.args.threads.now c.args.threads.now _ c.requires.flights c.if-self.true;
 }
 
 pub returns-else-self : goal.returns-else-self
 returns-else-self c = record {
   lasts = noted _ _ c.requires.formed c.requires.within c.args.threads.now c.note.new.self _ c.requires.flights c.note.ensures;
-  count_is = c.count-after-count.ensures;
-  crossed_is = crossed_else _ _ c.requires.formed c.requires.within c.args.threads.now c.args.threads.now _ c.requires.flights _ c.if-self.false c.count-after-count.ensures;
+  count_is = c.count_after-count.ensures;
+  crossed_is = crossed_else _ _ c.requires.formed c.requires.within c.args.threads.now c.args.threads.now _ c.requires.flights _ c.if-self.false c.count_after-count.ensures;
 }

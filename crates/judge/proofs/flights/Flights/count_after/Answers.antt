@@ -12,11 +12,11 @@ a_begin k w = ⊎_elim (λ e. ap begins e) (λ e. ap begins e) w
 an_answer : (k : Kind) → (k ≡ Accepted) ⊎ ((k ≡ Full) ⊎ ((k ≡ HandedOut) ⊎ (k ≡ Empty))) → begins k ≡ false
 an_answer k w = ⊎_elim (λ e. ap begins e) (⊎_elim (λ e. ap begins e) (⊎_elim (λ e. ap begins e) (λ e. ap begins e))) w
 
-pub overflow-add-result : goal.overflow-add-result
-overflow-add-result c = omega (arith, c.requires.count, flying_le c.args.history.now c.args.i)
+pub overflow_add-result : goal.overflow_add-result
+overflow_add-result c = omega (arith, c.requires.count, flying_le c.args.history.now c.args.i)
 
-pub overflow-sub-result : goal.overflow-sub-result
-overflow-sub-result c = omega (arith, c.requires.count, flying_answer _ _ c.requires.formed c.requires.within (an_answer (event_at c.args.history.now c.args.i).kind c.in-Accepted.is))
+pub overflow_sub-result : goal.overflow_sub-result
+overflow_sub-result c = omega (arith, c.requires.count, flying_answer _ _ c.requires.formed c.requires.within (an_answer (event_at c.args.history.now c.args.i).kind c.in-Accepted.is))
 
 pub returns-in-PutBegun : goal.returns-in-PutBegun
 returns-in-PutBegun c = omega (arith, c.requires.count, flying_begin _ _ c.requires.formed c.requires.within (a_begin (event_at c.args.history.now c.args.i).kind c.in-PutBegun.is))

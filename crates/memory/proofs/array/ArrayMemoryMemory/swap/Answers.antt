@@ -10,6 +10,6 @@ returns-then-i-self c =
     let e = c.args.expected in
     let v = c.args.new in
     record {
-      answer = simp c.in-Slot.is (c.swap-pair.ensures.answer ∙ slot_agrees s.count s.slots s.head s.tail (omega arith) i (omega arith) e v);
-      after = simp c.in-Slot.is (ap (λ p. front s.count (set s.slots i p) s.head s.tail) c.swap-pair.ensures.after ∙ slot_swapped s.count s.slots s.head s.tail (omega arith) i (omega arith) e v);
+      answer = simp c.in-Slot.is (c.swap_pair.ensures.answer ∙ slot_agrees s.count s.slots s.head s.tail (omega arith) i (omega arith) e v);
+      after = simp c.in-Slot.is (ap (λ p. front s.count (set s.slots i p) s.head s.tail) c.swap_pair.ensures.after ∙ slot_swapped s.count s.slots s.head s.tail (omega arith) i (omega arith) e v);
     }

@@ -10,6 +10,6 @@ returns-in-Slot c =
     let e = c.args.expected in
     let v = c.args.new in
     record {
-      answer = simp c.in-Slot.is (c.swap-word.ensures.answer ∙ word_answers ws s.head s.tail c.in-Slot.i e v);
-      after = simp c.in-Slot.is (ap (λ l. words_mean l s.head s.tail) c.swap-word.ensures.after ∙ words_after ws s.head s.tail c.in-Slot.i e v (omega arith));
+      answer = simp c.in-Slot.is (c.swap_word.ensures.answer ∙ word_answers ws s.head s.tail c.in-Slot.i e v);
+      after = simp c.in-Slot.is (ap (λ l. words_mean l s.head s.tail) c.swap_word.ensures.after ∙ words_after ws s.head s.tail c.in-Slot.i e v (omega arith));
     }

@@ -5,7 +5,7 @@ use Rattle.history.proofs.Positions.{count_more}
 use Rattle.steps.specs.Calls.{in_flight}
 use Rattle.rig.specs.Worlds.{State, state, call_at, flights}
 use Rattle.rig.proofs.rig.Rig.in_flight.Goals as goal
-use Rattle.rig.proofs.rig.Rig.in_flight.Goals.{then-in-flight, else-in-flight}
+use Rattle.rig.proofs.rig.Rig.in_flight.Goals.{then-in_flight, else-in_flight}
 
 abbrev Counted : (ℕ → Bool) → ℕ → ℕ → Type 0
 Counted p t n = (n ≡ count_below p t) × (n ≤ t)
@@ -23,9 +23,9 @@ no_more p t n m no_at is k =
 pub loop-t-preserved : goal.loop-t-preserved
 loop-t-preserved c =
     let p : ℕ → Bool = λ t. in_flight (call_at (state c.args.self.now) t) in
-    elim c.if-in-flight.branch [
-      | then-in-flight w ↦ one_more p c.loop-t.t c.loop-t.count _ (sym c.in_flight.ensures ∙ w.if-in-flight.true) w.count-is c.loop-t.invariant
-      | else-in-flight w ↦ no_more p c.loop-t.t c.loop-t.count _ (sym c.in_flight.ensures ∙ w.if-in-flight.false) w.count-is c.loop-t.invariant
+    elim c.if-in_flight.branch [
+      | then-in_flight w ↦ one_more p c.loop-t.t c.loop-t.count _ (sym c.in_flight.ensures ∙ w.if-in_flight.true) w.count-is c.loop-t.invariant
+      | else-in_flight w ↦ no_more p c.loop-t.t c.loop-t.count _ (sym c.in_flight.ensures ∙ w.if-in_flight.false) w.count-is c.loop-t.invariant
     ]
 
 all_counted : (r : State) (t n : ℕ) → t ≡ 64 → n ≡ count_below (λ u. in_flight (call_at r u)) t → n ≡ flights r

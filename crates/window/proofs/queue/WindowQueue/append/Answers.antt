@@ -7,7 +7,7 @@ pub returns : goal.returns
 returns g c =
     let s = c.args.self.now in
     let xs = s.places.now in
-    let lt = ltb-true s.len (length xs) (sym c.if-not-put-at.ensures.done) in
+    let lt = ltb-true s.len (length xs) (sym c.if-not-put_at.ensures.done) in
     let n = length-take-le s.len xs (omega arith) in
     let after = c.put_at.ensures.after in (
       omega (arith, n),
@@ -17,11 +17,11 @@ returns g c =
       ),
     )
 
-pub returns-then-not-put-at : goal.returns-then-not-put-at
-returns-then-not-put-at g c =
+pub returns-then-not-put_at : goal.returns-then-not-put_at
+returns-then-not-put_at g c =
     let s = c.args.self.now in
     let xs = s.places.now in
-    let le = ltb-false s.len (length xs) (sym c.if-not-put-at.ensures.done) in (
+    let le = ltb-false s.len (length xs) (sym c.if-not-put_at.ensures.done) in (
       ap length (take_all s.len xs le),
       (refl, ap (λ l. record { places = l; len = s.len; w = s.window; k = s.k }) (c.put_at.ensures.after ∙ set_past xs s.len c.args.x le)),
     )

@@ -24,11 +24,11 @@ returns g c =
       (
         allowed_from (queue (content s)) c.args.i (omega arith) (omega arith) (omega (arith, is)),
         (
-          queue_after xs s.len n is s.window s.k c.args.i (omega arith) (omega arith) c.pull.new.places c.window-after-self.result c.pull.ensures c.window-after-self.ensures,
-          (places_after xs s.len n is s.window s.k c.args.i (omega arith) (omega arith) c.pull.new.places c.window-after-self.result c.pull.ensures c.window-after-self.ensures, refl),
+          queue_after xs s.len n is s.window s.k c.args.i (omega arith) (omega arith) c.pull.new.places c.window_after-self.result c.pull.ensures c.window_after-self.ensures,
+          (places_after xs s.len n is s.window s.k c.args.i (omega arith) (omega arith) c.pull.new.places c.window_after-self.result c.pull.ensures c.window_after-self.ensures, refl),
         ),
       ),
     )
 
-pub take-nothing-requires : goal.take-nothing-requires
-take-nothing-requires g c = let s = c.args.self.now in c.min-len.ensures ∙ sym (length-take s.len s.places.now)
+pub take_nothing-requires : goal.take_nothing-requires
+take_nothing-requires g c = let s = c.args.self.now in c.min-len.ensures ∙ sym (length-take s.len s.places.now)
