@@ -15,8 +15,8 @@ loop-q-init c = go_start c.args.k c.args.history.now c.args.rows.now c.min-q.res
 pub overflow_sub-m : goal.overflow_sub-m
 overflow_sub-m c = (turn _ _ _ _ _ _ _ _ c.requires c.loop-q-test.true (ap kind_number c.in-Accepted.is) c.loop-q.invariant).pos
 
-pub slice-copy-out·row : goal.slice-copy-out·row
-slice-copy-out·row c = let t = turn _ _ _ _ _ _ _ _ c.requires c.loop-q-test.true (ap kind_number c.in-Accepted.is) c.loop-q.invariant in omega (arith, t.in_rows)
+pub slice_copy_out-row : goal.slice_copy_out-row
+slice_copy_out-row c = let t = turn _ _ _ _ _ _ _ _ c.requires c.loop-q-test.true (ap kind_number c.in-Accepted.is) c.loop-q.invariant in omega (arith, t.in_rows)
 
 pub overflow_add-row : goal.overflow_add-row
 overflow_add-row c = let t = turn _ _ _ _ _ _ _ _ c.requires c.loop-q-test.true (ap kind_number c.in-Accepted.is) c.loop-q.invariant in omega (arith, t.few (not-true _ c.if-not-row.true))
