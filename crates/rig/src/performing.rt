@@ -7,8 +7,8 @@ use steps::access::{Access, Got};
 
 // Makes the access, and says what it returned.
 pub fn perform<M: Memory>(memory: &mut M, access: Access) -> Got
-    ensures got { result ≡ returned (meaning memory.old) access }
-    ensures after { meaning memory.new ≡ left_by (meaning memory.old) access }
+    ensures got { result ≡ returned (M.meaning memory.old) access }
+    ensures after { M.meaning memory.new ≡ left_by (M.meaning memory.old) access }
 {
     match access {
         Access::Read(at) => match memory.read(at) {

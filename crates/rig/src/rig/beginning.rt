@@ -22,7 +22,7 @@ impl Rig {
         history: &[Event],
         row: bool,
     ) -> Result<(), Refusal>
-        ensures { Asked (begin_no (world self.now (meaning memory.now) history.now) thread row) result }
+        ensures { Asked (begin_no (world self.now (M.meaning memory.now) history.now) thread row) result }
     {
         if memory.count() < self.config.slots() as usize {
             return Err(Refusal::TooFewSlots);
@@ -71,7 +71,7 @@ impl Rig {
         thread: u32,
         history: &mut [Event],
     ) -> Result<CallToken, Refusal>
-        ensures { TakeBegins (world self.old (meaning memory.now) history.old) thread result (world self.new (meaning memory.now) history.new) }
+        ensures { TakeBegins (world self.old (M.meaning memory.now) history.old) thread result (world self.new (M.meaning memory.now) history.new) }
     {
         self.ask_begin(memory, thread, history, true)?;
         let event = Event {
@@ -90,7 +90,7 @@ impl Rig {
         history: &mut [Event],
         items: &mut [E],
     ) -> Result<CallToken, Refusal>
-        ensures { PutBegins (world self.old (meaning memory.now) history.old) items.old thread element result (world self.new (meaning memory.now) history.new) items.new }
+        ensures { PutBegins (world self.old (M.meaning memory.now) history.old) items.old thread element result (world self.new (M.meaning memory.now) history.new) items.new }
     {
         let row = self.items as usize;
         self.ask_begin(memory, thread, history, row < items.len().min(MOST))?;

@@ -10,7 +10,7 @@ use steps::config::Config;
 impl Rig {
     // Clears the memory; all threads are idle, and nothing was done yet.
     pub fn open<M: Memory>(config: Config, memory: &mut M) -> Rig
-        ensures { Opened config (meaning memory.old) result (meaning memory.new) }
+        ensures { Opened config (M.meaning memory.old) result (M.meaning memory.new) }
     {
         memory.clear();
         let resting = Thread {

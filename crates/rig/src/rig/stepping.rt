@@ -51,7 +51,7 @@ impl Rig {
         start: u32,
         history: &[Event],
     ) -> Result<Access, Refusal>
-        ensures { StepAsked (world self.now (meaning memory.now) history.now) thread start result }
+        ensures { StepAsked (world self.now (M.meaning memory.now) history.now) thread start result }
     {
         if memory.count() < self.config.slots() as usize {
             return Err(Refusal::TooFewSlots);
@@ -82,8 +82,8 @@ impl Rig {
         history: &mut [Event],
     ) -> Progress
         requires { (thread < 64) × ((self.old.events < 65536) × ((self.old.events < length history.old) × (self.old.steps < 1000000000))) }
-        ensures says { progress_number result ≡ told (next_call (world self.old (meaning memory.old) history.old) thread start access) }
-        ensures leaves { world self.new (meaning memory.new) history.new ≡ stepped (world self.old (meaning memory.old) history.old) thread start access }
+        ensures says { progress_number result ≡ told (next_call (world self.old (M.meaning memory.old) history.old) thread start access) }
+        ensures leaves { world self.new (M.meaning memory.new) history.new ≡ stepped (world self.old (M.meaning memory.old) history.old) thread start access }
     {
         let t = thread as usize;
         let before = self.threads[t].call;
@@ -105,7 +105,7 @@ impl Rig {
         pick: Pick,
         history: &mut [Event],
     ) -> Result<Progress, Refusal>
-        ensures { Steps (world self.old (meaning memory.old) history.old) pick result (world self.new (meaning memory.new) history.new) }
+        ensures { Steps (world self.old (M.meaning memory.old) history.old) pick result (world self.new (M.meaning memory.new) history.new) }
     {
         let Pick { thread, start } = pick;
         let Some(thread) = thread else {
