@@ -1,6 +1,8 @@
 -- A report from its parts.
-use Rattle.std.proofs.Common.{◌≡◌, ℕ, List, length, Ok, Err, Result, subst}
-use Rattle.history.specs.Limits.{most}
+use Rattle.std.proofs.Common.{◌≡◌, ℕ, List, length, Ok, Err, Result, subst, inl, inr, arith}
+use Rattle.history.specs.Calls.{Apart}
+use Rattle.history.specs.Limits.{most, SegmentFits}
+use Rattle.history.specs.Questions.{AllYes, FirstNo}
 use Rattle.history.specs.declared.event.Event.{Event}
 use Rattle.history.specs.declared.refusal.Refusal.{Refusal}
 use Rattle.history.proofs.Questions.{not_both}
@@ -8,6 +10,7 @@ use Rattle.judge.specs.Answers as judge
 use Rattle.judge.specs.declared.verdict.Verdict.{Verdict}
 use Rattle.stored.specs.Input.{Holds}
 use Rattle.history.specs.Asked.{history_questions}
+use Rattle.replay.specs.Answer.{replay_questions}
 use Rattle.stored.specs.Report.{ReplayGiven, Tale, Declined}
 use Rattle.stored.specs.declared.report.Replay.{Replay}
 
@@ -17,6 +20,15 @@ judged_at k n h h' m m' r e f g = subst (λ (l : List Event). judge.Answered k n
 
 pub given_at : (k : ℕ) (h h' : List Event) (m m' : ℕ) (r : Result Replay Refusal) → h ≡ h' → m ≡ m' → ReplayGiven k h m r → ReplayGiven k h' m' r
 given_at k h h' m m' r e f g = subst (λ (l : List Event). ReplayGiven k l m' r) e (subst (λ (i : ℕ). ReplayGiven k h i r) f g)
+
+-- calls overlap: the questions before that one were answered yes
+pub overlap_found : (k m : ℕ) (h : List Event) → FirstNo (replay_questions k h m) 16 → SegmentFits k × (AllYes (history_questions h m) × (Apart h (length h) → ⊥))
+overlap_found k m h (inl p) = absurd (omega (arith, p.1))
+overlap_found k m h (inr (fits, inl p)) = absurd (omega (arith, p.1))
+overlap_found k m h (inr (fits, inr (short, inl p))) = absurd (omega (arith, p.1))
+overlap_found k m h (inr (fits, inr (short, inr (formed, inl p)))) = absurd (omega (arith, p.1))
+overlap_found k m h (inr (fits, inr (short, inr (formed, inr (rows, inl p))))) = (fits, ((short, (formed, (rows, tt))), p.0))
+overlap_found k m h (inr (fits, inr (short, inr (formed, inr (rows, inr (apart, none)))))) = absurd none
 
 module _ (input : List ℕ) (k n : ℕ) (h : List Event) (H : Holds input k n h) where
   pub declined : (r : Refusal) → judge.Answered k n h most (Err r) → Declined input r
