@@ -1,5 +1,5 @@
 -- Questions have one answer, and keep it where more follow.
-use Rattle.std.proofs.Common.{◌≡◌, ℕ, ◌⊎◌, List, [], ◌∷◌, ◌++◌, sym, ◌∙◌, inl, inr, ⊎_elim}
+use Rattle.std.proofs.Common.{◌≡◌, ℕ, List, [], ◌∷◌, ◌++◌, sym, ◌∙◌, inl, inr, ⊎_elim}
 use Rattle.history.specs.Questions.{Question, AllYes, FirstNo}
 
 pub not_both : (qs : List Question) (n : ℕ) → AllYes qs → FirstNo qs n → ⊥

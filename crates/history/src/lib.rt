@@ -1,4 +1,6 @@
 // Histories: what an event is, which histories are well formed, and why one is refused.
+#![tactic(auto)]
+
 pub mod asked;
 pub mod event;
 pub mod formed;

@@ -1,4 +1,6 @@
 // The judge of a history: the first event at which the queue broke its promise, with the lowest fault that it shows.
+#![tactic(auto)]
+
 mod answers;
 mod flights;
 pub mod judge;

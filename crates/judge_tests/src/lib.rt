@@ -1,3 +1,5 @@
+#![tactic(auto)]
+
 // The judge on small histories, and at its limits.
 #[cfg(test)]
 mod expect;

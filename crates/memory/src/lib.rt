@@ -1,4 +1,6 @@
 // A memory of tagged slots and two markers, and two memories that keep its laws.
+#![tactic(auto)]
+
 ghost use Rattle.std.specs.Prelude.{◌≡◌, length};
 ghost use Rattle.memory.specs.Mem.{Mem};
 ghost use Rattle.memory.specs.Laws.{cleared, looked, agrees, swapped};

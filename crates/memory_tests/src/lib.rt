@@ -1,3 +1,5 @@
+#![tactic(auto)]
+
 // The two memories at the edges of their laws.
 #[cfg(test)]
 mod laws;

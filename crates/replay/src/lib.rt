@@ -1,4 +1,6 @@
 // The replay of a history without overlap against the window queue.
+#![tactic(auto)]
+
 mod alone;
 pub mod outcome;
 mod play;

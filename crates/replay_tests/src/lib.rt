@@ -1,3 +1,5 @@
+#![tactic(auto)]
+
 // The window queue and the replay at the edges of what they allow.
 #[cfg(test)]
 mod queue;

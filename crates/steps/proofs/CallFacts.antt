@@ -1,5 +1,5 @@
 -- What a call keeps lies in the ring, and so does every access that it makes.
-use Rattle.std.proofs.Common.{◌≡◌, ℕ, suc, ◌+◌, ◌*◌, ◌%◌, ◌<◌, cond, eqb, ltb, leb, List, [], ◌∷◌, Some, None, Option, sym, subst, mod-lt, mul-le-mul_left, mul-suc, arith}
+use Rattle.std.proofs.Common.{ℕ, suc, ◌+◌, ◌%◌, ◌<◌, cond, eqb, ltb, leb, List, [], ◌∷◌, Some, None, Option, mod-lt, mul-le-mul_left, mul-suc, arith}
 use Rattle.std.proofs.lemmas.Bool.{ltb-true, cond_both}
 use Rattle.steps.specs.declared.access.Got.{Got}
 use Rattle.steps.specs.declared.access.Got.TheVariants.{Pair, Said}

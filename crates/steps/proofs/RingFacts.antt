@@ -1,8 +1,8 @@
 -- The segments stand in a ring: positions as multiples of k, and next as the multiple after.
-use Rattle.std.proofs.Common.{◌≡◌, ℕ, zero, suc, ◌+◌, ◌-◌, ◌*◌, ◌/◌, ◌%◌, ◌<◌, ◌≤◌, true, eqb, ltb, ◌⊎◌, sym, refl, ap, ◌∙◌, subst, inl, inr, ⊎_elim, mod-lt, mod-eq_of_lt, mul_comm, mul-pos, mul-zero, mul-suc, arith}
-use native.Mathlib.Nat.{mul-lt-mul_of_pos_left, lt_of_mul-lt-mul_left, le_of_mul-le-mul_left, mod_self, add-mod_left, div-add-mod, mul-mod_right, mul-add-mod_self_left}
+use Rattle.std.proofs.Common.{◌≡◌, ℕ, zero, suc, ◌+◌, ◌-◌, ◌*◌, ◌/◌, ◌%◌, ◌<◌, ◌≤◌, eqb, ltb, ◌⊎◌, sym, refl, ap, ◌∙◌, subst, inl, inr, ⊎_elim, mod-lt, mod-eq_of_lt, mul-pos, mul-zero, mul-suc, arith}
+use native.Mathlib.Nat.{mul-lt-mul_of_pos_left, lt_of_mul-lt-mul_left, mod_self, add-mod_left, div-add-mod, mul-mod_right, mul-add-mod_self_left}
 use Rattle.std.proofs.lemmas.Bool.{and_parts, and_from, ltb-true, eqb-true, lt-ltb, le-ltb, eq-eqb, cond-true, cond-false, cond_both, cases_lt}
-use Rattle.steps.specs.Ring.{Ring, whole, is_position, position, next, distance, segment_of}
+use Rattle.steps.specs.Ring.{Ring, whole, is_position, next, distance, segment_of}
 use Rattle.steps.specs.RingLaw.{onwards, Position, RingLaw}
 
 -- the position of segment m

@@ -2,7 +2,6 @@
 use Rattle.std.proofs.Common.{◌≡◌, ℕ, zero, suc, ◌+◌, ◌%◌, ◌<◌, false, cond, eqb, ltb, Some, None, sym, refl, ap, ◌∙◌, ⊎_elim, add-zero, add-suc, mod-lt, mod-eq_of_lt, arith}
 use native.Mathlib.Nat.{mod_self, suc-mod}
 use Rattle.std.proofs.lemmas.Bool.{ne_eqb, lt-ltb, le-ltb, cond-true, cond-false, cases_lt}
-use Rattle.steps.specs.declared.search.Search.{Search}
 use Rattle.steps.specs.Ring.{Ring}
 use Rattle.steps.specs.Probes.{place, probed, further}
 use Rattle.steps.specs.SearchLaw.{after_probes, SearchLaw}

@@ -1,5 +1,5 @@
 -- The probes of a search, one a step, through the k places of a segment.
-use Rattle.std.specs.Prelude.{ℕ, ◌+◌, ◌%◌, Bool, cond, Some, None, Option, ◌==◌, nat_lt}
+use Rattle.std.specs.Prelude.{ℕ, ◌+◌, ◌%◌, cond, Some, None, Option, ◌==◌, nat_lt}
 use Rattle.steps.specs.declared.kept.Marker.{Marker}
 use Rattle.steps.specs.declared.search.Search.{Search}
 use Rattle.steps.specs.Ring.{Ring}

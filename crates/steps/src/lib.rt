@@ -1,5 +1,7 @@
 // The steps of a bounded k-FIFO queue: its configuration, and the two step machines of its threads, put and take.
 // No memory is touched here: a step says which access it makes, and moves on by what the access returned.
+#![tactic(auto)]
+
 pub mod access;
 pub mod answer;
 pub mod answer_number;

@@ -1,4 +1,6 @@
 // Reading text line by line: lines of at most 80 bytes, what follows a key, parts at a byte, decimal numbers.
+#![tactic(auto)]
+
 pub mod cut;
 pub mod decimal;
 pub mod header;

@@ -1,5 +1,5 @@
 -- The queue in its places: the list stands at the front of them, and those behind it are unused.
-use Rattle.std.specs.Prelude.{◌≡◌, ℕ, ◌+◌, ◌-◌, ◌<◌, ◌≤◌, List, ◌++◌, length, take, drop, Some, None, Ok, Err, Option, Result, slice_index_or, slice_set}
+use Rattle.std.specs.Prelude.{◌≡◌, ℕ, ◌-◌, ◌<◌, ◌≤◌, List, ◌++◌, length, take, drop, Some, None, Ok, Err, Option, Result, slice_index_or, slice_set}
 use Rattle.std.specs.List.{remove}
 use Rattle.window.specs.Refusals.{refusal_number}
 use Rattle.window.specs.Queue.{Queue, start, appended, Allowed, taken}
