@@ -1,4 +1,6 @@
 // kjudge: reads a stored history from standard input and prints what is found of it.
+#![tactic(auto)]
+
 use std::io::Read;
 use stored::printed::printed;
 

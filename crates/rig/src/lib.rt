@@ -1,4 +1,6 @@
 // The rig: a bounded k-FIFO queue played for simulated threads, one memory access at a time.
+#![tactic(auto)]
+
 mod performing;
 pub mod pick;
 pub mod progress;

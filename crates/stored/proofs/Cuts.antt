@@ -1,5 +1,5 @@
 -- Bytes around a mark: there is one way to cut them at the first.
-use Rattle.std.proofs.Common.{◌≡◌, ℕ, ◌+◌, List, [], ◌∷◌, ◌++◌, length, get_or, sym, refl, ap, ◌∙◌, arith}
+use Rattle.std.proofs.Common.{◌≡◌, ℕ, List, [], ◌∷◌, ◌++◌, length, get_or, sym, refl, ap, ◌∙◌, arith}
 use Rattle.std.proofs.lemmas.List.{length-append, get_or_at}
 use Rattle.text.specs.Cut.{Lacks}
 use Rattle.text.specs.Numeral.{Numeral}
