@@ -5,10 +5,6 @@ ghost use Rattle.text.specs.Cut.{Splits};
 pub fn split_at_byte<'a>(bytes: &'a [u8], mark: u8) -> Option<(&'a [u8], &'a [u8])>
     ensures { Splits mark bytes.now result }
 {
-    for (i, b) in bytes.iter().enumerate() {
-        if *b == mark {
-            return Some((&bytes[0..i], &bytes[i + 1..]));
-        }
-    }
-    None
+    let i = bytes.iter().position(|b| *b == mark)?;
+    Some((&bytes[..i], &bytes[i + 1..]))
 }

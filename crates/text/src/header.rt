@@ -16,10 +16,10 @@ pub fn header_number(reader: &mut Reader, at: usize, key: &[u8]) -> Result<u32, 
         });
     };
     let Some(value) = line.after(key) else {
-        return Err(line.not_due());
+        return Err(line.bad(Reason::NotDue));
     };
     let Some(n) = number(value) else {
-        return Err(line.unreadable());
+        return Err(line.bad(Reason::Unreadable));
     };
     Ok(n)
 }

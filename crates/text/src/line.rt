@@ -1,7 +1,10 @@
 // A line of the input, and why one is refused.
-ghost use Rattle.std.specs.Prelude.{◌≡◌};
-ghost use Rattle.text.specs.Refusal.{code, refusal};
+ghost use Rattle.std.specs.Prelude.{◌≡◌, Some};
+ghost use Rattle.text.specs.Refusal.{code, refusal, bad_line_text};
 ghost use Rattle.text.specs.Cut.{Follows};
+
+use std::error::Error;
+use std::fmt;
 
 // A line of the input, numbered from 1.
 #[derive(Clone, Copy)]
@@ -10,25 +13,18 @@ pub struct Line<'a> {
     pub bytes: &'a [u8],
 }
 
-#[derive(Clone, Copy, Debug, PartialEq)]
+#[derive(Clone, Copy, Debug, PartialEq, Eq)]
 pub enum Reason {
     Unreadable,
     NotDue,
     TooLong,
 }
 
-// The line that is refused, and why.
-#[derive(Clone, Copy, Debug, PartialEq)]
-pub struct BadLine {
-    pub line: usize,
-    pub reason: Reason,
-}
+impl From<Reason> for u32 {
+    ghost from_gives = { λ reason n. n ≡ code reason };
 
-impl Reason {
-    pub fn number(self) -> u32
-        ensures { result ≡ code self }
-    {
-        match self {
+    fn from(reason: Reason) -> u32 {
+        match reason {
             Reason::Unreadable => 19,
             Reason::NotDue => 20,
             Reason::TooLong => 21,
@@ -36,22 +32,32 @@ impl Reason {
     }
 }
 
-impl<'a> Line<'a> {
-    pub fn unreadable(&self) -> BadLine
-        ensures { result ≡ refusal self.now.number Reason.Unreadable }
-    {
-        BadLine {
-            line: self.number,
-            reason: Reason::Unreadable,
-        }
-    }
+// The line that is refused, and why.
+#[derive(Clone, Copy, Debug, PartialEq, Eq)]
+pub struct BadLine {
+    pub line: usize,
+    pub reason: Reason,
+}
 
-    pub fn not_due(&self) -> BadLine
-        ensures { result ≡ refusal self.now.number Reason.NotDue }
+impl fmt::Display for BadLine {
+    ghost output = { λ bad. Some (bad_line_text bad) };
+
+    fn fmt<W: fmt::Write>(&self, f: &mut fmt::Formatter<W>) -> fmt::Result {
+        let number = u32::from(self.reason);
+        write!(f, "{}:{number}", self.line)
+    }
+}
+
+impl Error for BadLine {}
+
+impl<'a> Line<'a> {
+    // The refusal of this line.
+    pub fn bad(&self, reason: Reason) -> BadLine
+        ensures { result ≡ refusal self.now.number reason }
     {
         BadLine {
             line: self.number,
-            reason: Reason::NotDue,
+            reason,
         }
     }
 

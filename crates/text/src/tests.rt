@@ -14,7 +14,7 @@ fn next<'a>(reader: &mut Reader<'a>) -> Result<Option<&'a [u8]>, u32> {
     match reader.next_line() {
         Ok(Some(line)) => Ok(Some(line.bytes)),
         Ok(None) => Ok(None),
-        Err(bad) => Err(bad.reason.number()),
+        Err(bad) => Err(u32::from(bad.reason)),
     }
 }
 

@@ -14,10 +14,10 @@ returns-in_default-number c =
     let key = c.args.key.now in
     let hands : Hands s line c.next_line.new.self = subst (λ (o : Option Line). NextLine s (Ok o) c.next_line.new.self) c.in-Some.is c.in_ok-line.ensures in
     let cut = c.in-Some-after.ensures in
-    subst (λ (ls : List (List ℕ)). BadFirst c.args.at key (s.number + 1) ls c.unreadable.result) (sym hands.first) (inr (
+    subst (λ (ls : List (List ℕ)). BadFirst c.args.at key (s.number + 1) ls c.bad-in_default-number.result) (sym hands.first) (inr (
       hands.short,
       inr (
         (c.in-Some-after.value.now, cut),
-        (no_header key line.bytes.now c.in-Some-after.value.now cut c.in_default-number.ensures, c.unreadable.ensures ∙ ap (λ n. refusal n Unreadable) hands.numbered),
+        (no_header key line.bytes.now c.in-Some-after.value.now cut c.in_default-number.ensures, c.bad-in_default-number.ensures ∙ ap (λ n. refusal n Unreadable) hands.numbered),
       ),
     ))
