@@ -1,30 +1,41 @@
 // An event's line.
-ghost use Rattle.stored.specs.Format.{KeyOf, NumbersRead, EventRead};
+ghost use Rattle.std.specs.Prelude.{◌≡◌};
+ghost use Rattle.stored.specs.Format.{word, KeyOf, NumbersRead, EventRead};
 
 use history::event::{Event, Kind};
-use text::{BadLine, Line, number, split_at_byte};
+use text::{BadLine, Line, Reason, number, split_at_byte};
+
+const KINDS: [Kind; 6] = [
+    Kind::PutBegun,
+    Kind::TakeBegun,
+    Kind::Accepted,
+    Kind::Full,
+    Kind::HandedOut,
+    Kind::Empty,
+];
+
+// The word that the lines of a kind begin with.
+fn word(kind: Kind) -> &'static [u8]
+    ensures { result.now ≡ word kind }
+{
+    match kind {
+        Kind::PutBegun => b"put=",
+        Kind::TakeBegun => b"take=",
+        Kind::Accepted => b"accepted=",
+        Kind::Full => b"full=",
+        Kind::HandedOut => b"item=",
+        Kind::Empty => b"empty=",
+    }
+}
 
 // The kind that a line begins with, and what follows the word.
 fn kind_of<'a>(line: &Line<'a>) -> Option<(Kind, &'a [u8])>
     ensures { KeyOf line.now.bytes.now result }
 {
-    if let Some(rest) = line.after(b"put=") {
-        return Some((Kind::PutBegun, rest));
-    }
-    if let Some(rest) = line.after(b"take=") {
-        return Some((Kind::TakeBegun, rest));
-    }
-    if let Some(rest) = line.after(b"accepted=") {
-        return Some((Kind::Accepted, rest));
-    }
-    if let Some(rest) = line.after(b"full=") {
-        return Some((Kind::Full, rest));
-    }
-    if let Some(rest) = line.after(b"item=") {
-        return Some((Kind::HandedOut, rest));
-    }
-    if let Some(rest) = line.after(b"empty=") {
-        return Some((Kind::Empty, rest));
+    for kind in KINDS {
+        if let Some(rest) = line.after(word(kind)) {
+            return Some((kind, rest));
+        }
     }
     None
 }
@@ -34,13 +45,13 @@ fn pair(line: &Line, bytes: &[u8]) -> Result<(u32, u32), BadLine>
     ensures { NumbersRead Kind.PutBegun bytes.now line.now.number result }
 {
     let Some((before, behind)) = split_at_byte(bytes, b':') else {
-        return Err(line.unreadable());
+        return Err(line.bad(Reason::Unreadable));
     };
     let Some(thread) = number(before) else {
-        return Err(line.unreadable());
+        return Err(line.bad(Reason::Unreadable));
     };
     let Some(item) = number(behind) else {
-        return Err(line.unreadable());
+        return Err(line.bad(Reason::Unreadable));
     };
     Ok((thread, item))
 }
@@ -50,7 +61,7 @@ fn alone(line: &Line, bytes: &[u8]) -> Result<(u32, u32), BadLine>
     ensures { NumbersRead Kind.Empty bytes.now line.now.number result }
 {
     let Some(thread) = number(bytes) else {
-        return Err(line.unreadable());
+        return Err(line.bad(Reason::Unreadable));
     };
     Ok((thread, 0))
 }
@@ -70,7 +81,7 @@ pub fn event(line: &Line) -> Result<Event, BadLine>
     ensures { EventRead line.now.bytes.now line.now.number result }
 {
     let Some((kind, rest)) = kind_of(line) else {
-        return Err(line.unreadable());
+        return Err(line.bad(Reason::Unreadable));
     };
     let (thread, item) = numbers(line, kind, rest)?;
     Ok(Event { kind, thread, item })
