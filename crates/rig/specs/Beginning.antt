@@ -41,7 +41,7 @@ begin_no w t row = first_no (begin_questions w t row)
 abbrev pub begun_rig : State → ℕ → Call → ℕ → State
 begun_rig r t c items = record {
   config = r.config;
-  threads = slice_set r.threads t (record { call = c; number = r.begun + 1 });
+  threads = slice_set r.threads t (record { call = c; number = Some (r.begun + 1) });
   begun = r.begun + 1;
   items = items;
   events = r.events + 1;

@@ -14,9 +14,14 @@ use Rattle.rig.specs.declared.reply.Reply.TheVariants as reply
 use Rattle.rig.specs.declared.token.CallToken.{CallToken}
 use Rattle.rig.specs.declared.token.Declined.{Declined}
 
+-- the number is this one
+abbrev pub is_number : Option ℕ → ℕ → Bool
+is_number None n = false
+is_number (Some m) n = m == n
+
 -- is it this thread's present call?
 abbrev pub present : State → CallToken → Bool
-present r token = (thread_at r token.thread).number == token.number
+present r token = is_number (thread_at r token.thread).number token.number
 
 -- the answer, where the call has one
 abbrev pub answer_at : State → CallToken → Option Answer

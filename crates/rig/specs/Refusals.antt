@@ -1,5 +1,5 @@
 -- The numbers of the refusals: each is the number of the question that was answered no.
-use Rattle.std.specs.Prelude.{◌≡◌, ℕ, Some, None, Ok, Err, Option, Result}
+use Rattle.std.specs.Prelude.{◌≡◌, ℕ, List, Some, None, Ok, Err, decimal, Option, Result}
 use Rattle.rig.specs.declared.refusal.Refusal.{Refusal}
 use Rattle.rig.specs.declared.refusal.Refusal.TheVariants.{TooFewSlots, NoSuchThread, NotIdle, NoEntry, NoRow, NoCallInFlight, TooManySteps, NotPresentCall, NotAnswered}
 
@@ -13,6 +13,10 @@ refusal_number NoCallInFlight = 9
 refusal_number TooManySteps = 10
 refusal_number NotPresentCall = 11
 refusal_number NotAnswered = 12
+
+-- a refusal as text
+abbrev pub refusal_text : Refusal → List ℕ
+refusal_text r = decimal (refusal_number r)
 
 -- the questions were asked: each was answered yes, or the refusal is the first no
 abbrev pub Asked : {A : Type 0} → Option ℕ → Result A Refusal → Type 0

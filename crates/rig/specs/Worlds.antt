@@ -1,5 +1,5 @@
 -- What a call on a rig finds and leaves: the rig, what the memory means, and the history table.
-use Rattle.std.specs.Prelude.{ℕ, List, slice_index_or}
+use Rattle.std.specs.Prelude.{ℕ, List, None, slice_index_or}
 use Rattle.history.specs.Positions.{count_below}
 use Rattle.history.specs.declared.event.Event.{Event}
 use Rattle.memory.specs.Mem.{Mem}
@@ -32,7 +32,7 @@ world r m h = record { rig = state r; memory = m; history = h }
 
 -- a thread that is idle and has no present call
 abbrev pub resting : Thread
-resting = record { call = Idle; number = 0 }
+resting = record { call = Idle; number = None }
 
 abbrev pub thread_at : State → ℕ → Thread
 thread_at r t = slice_index_or r.threads t resting

@@ -6,32 +6,31 @@ use steps::answer::Answer;
 use steps::call::Call;
 
 // Flat where no thread was picked; else the call goes on, or has its answer.
-#[derive(Clone, Copy)]
+#[derive(Clone, Copy, Debug, PartialEq, Eq)]
 pub enum Progress {
     Flat,
     Going,
     Ended(Answer),
 }
 
-impl Progress {
-    // The number, with the item that the answer carries, else 0.
-    pub fn number(self) -> (u32, u32)
-        ensures { result ≡ progress_number self }
-    {
-        match self {
+// The number, with the item that the answer carries, else 0.
+impl From<Progress> for (u32, u32) {
+    ghost from_gives = { λ progress n. n ≡ progress_number progress };
+
+    fn from(progress: Progress) -> (u32, u32) {
+        match progress {
             Progress::Flat => (0, 0),
             Progress::Going => (1, 0),
             Progress::Ended(answer) => answer.number(),
         }
     }
+}
 
-    // Of a step that led to this call.
-    pub(crate) fn of(call: Call) -> Progress
-        ensures { progress_number result ≡ told call }
-    {
-        match call.answer() {
-            Some(answer) => Progress::Ended(answer),
-            None => Progress::Going,
-        }
+// Of a step that led to this call.
+impl From<Call> for Progress {
+    ghost from_gives = { λ call progress. progress_number progress ≡ told call };
+
+    fn from(call: Call) -> Progress {
+        call.answer().map_or(Progress::Going, Progress::Ended)
     }
 }

@@ -1,8 +1,11 @@
 // Why a call on a rig is refused.
-ghost use Rattle.std.specs.Prelude.{◌≡◌};
-ghost use Rattle.rig.specs.Refusals.{refusal_number};
+ghost use Rattle.std.specs.Prelude.{◌≡◌, Some};
+ghost use Rattle.rig.specs.Refusals.{refusal_number, refusal_text};
 
-#[derive(Clone, Copy)]
+use std::error::Error;
+use std::fmt;
+
+#[derive(Clone, Copy, Debug, PartialEq, Eq)]
 pub enum Refusal {
     TooFewSlots,
     NoSuchThread,
@@ -15,12 +18,12 @@ pub enum Refusal {
     NotAnswered,
 }
 
-impl Refusal {
-    // The number of the question that was answered no.
-    pub fn number(self) -> u32
-        ensures { result ≡ refusal_number self }
-    {
-        match self {
+// The number of the question that was answered no.
+impl From<Refusal> for u32 {
+    ghost from_gives = { λ refusal n. n ≡ refusal_number refusal };
+
+    fn from(refusal: Refusal) -> u32 {
+        match refusal {
             Refusal::TooFewSlots => 4,
             Refusal::NoSuchThread => 5,
             Refusal::NotIdle => 6,
@@ -33,3 +36,13 @@ impl Refusal {
         }
     }
 }
+
+impl fmt::Display for Refusal {
+    ghost output = { λ refusal. Some (refusal_text refusal) };
+
+    fn fmt<W: fmt::Write>(&self, f: &mut fmt::Formatter<W>) -> fmt::Result {
+        write!(f, "{}", u32::from(*self))
+    }
+}
+
+impl Error for Refusal {}

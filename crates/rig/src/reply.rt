@@ -1,6 +1,6 @@
 // What a collected call gives.
 
-#[derive(Clone, Copy)]
+#[derive(Clone, Copy, Debug, PartialEq, Eq)]
 pub enum Reply<E> {
     Accepted,
     Full,

@@ -1,7 +1,7 @@
 // What a closed rig did.
 use super::token::CallToken;
 
-#[derive(Clone, Copy)]
+#[derive(Clone, Copy, Debug, PartialEq, Eq)]
 pub struct Summary {
     pub events: usize,
     pub items: u32,

@@ -57,7 +57,10 @@ impl Rig {
         ensures history { history.new ≡ slice_set history.old self.old.events event }
     {
         let number = self.begun + 1;
-        self.threads[thread as usize] = Thread { call, number };
+        self.threads[thread as usize] = Thread {
+            call,
+            number: Some(number),
+        };
         history[self.events] = event;
         self.events += 1;
         self.begun = number;

@@ -21,11 +21,9 @@ fn reply_to<E: Copy>(answer: Answer, items: &[E]) -> Option<Reply<E>>
         Answer::Full => Some(Reply::Full),
         Answer::Empty => Some(Reply::Empty),
         Answer::Item(item) => {
-            let row = item as usize;
-            if row < 1 || row > items.len().min(MOST) {
-                return None;
-            }
-            Some(Reply::Element(items[row - 1]))
+            let used = items.len().min(MOST);
+            let row = (item as usize).checked_sub(1)?;
+            items[..used].get(row).copied().map(Reply::Element)
         }
     }
 }
@@ -39,16 +37,11 @@ impl Rig {
             return Err(Refusal::NoSuchThread);
         }
         let Thread { call, number } = self.threads[token.thread as usize];
-        if number != token.number {
+        if number != Some(token.number) {
             return Err(Refusal::NotPresentCall);
         }
-        let Some(answer) = call.answer() else {
-            return Err(Refusal::NotAnswered);
-        };
-        let Some(reply) = reply_to(answer, items) else {
-            return Err(Refusal::NoRow);
-        };
-        Ok(reply)
+        let answer = call.answer().ok_or(Refusal::NotAnswered)?;
+        reply_to(answer, items).ok_or(Refusal::NoRow)
     }
 
     // Spends the token of an answered call and gives what the call gave; the thread is idle then.
@@ -61,7 +54,7 @@ impl Rig {
                 let CallToken { thread, number: _ } = token;
                 self.threads[thread as usize] = Thread {
                     call: Call::Idle,
-                    number: 0,
+                    number: None,
                 };
                 Ok(reply)
             }

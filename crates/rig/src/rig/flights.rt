@@ -9,12 +9,9 @@ impl Rig {
         ensures is { result ≡ flights (state self.now) }
         ensures few { result ≤ 64 }
     {
-        let mut count = 0;
-        for t in 0..64 {
-            if self.threads[t].call.in_flight() {
-                count += 1;
-            }
-        }
-        count
+        self.threads
+            .iter()
+            .filter(|thread| thread.call.in_flight())
+            .count()
     }
 }

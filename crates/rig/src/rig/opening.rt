@@ -15,7 +15,7 @@ impl Rig {
         memory.clear();
         let resting = Thread {
             call: Call::Idle,
-            number: 0,
+            number: None,
         };
         Rig {
             config,

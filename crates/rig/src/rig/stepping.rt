@@ -60,9 +60,9 @@ impl Rig {
             return Err(Refusal::NoSuchThread);
         }
         let call = self.threads[thread as usize].call;
-        let Some(access) = call.access(self.config, start) else {
-            return Err(Refusal::NoCallInFlight);
-        };
+        let access = call
+            .access(self.config, start)
+            .ok_or(Refusal::NoCallInFlight)?;
         if self.events >= history.len().min(MOST) {
             return Err(Refusal::NoEntry);
         }
@@ -95,7 +95,7 @@ impl Rig {
             history[self.events] = answer_event(thread, before, answer);
             self.events += 1;
         }
-        Progress::of(after)
+        Progress::from(after)
     }
 
     // One step of the picked thread; flat where none is picked.
