@@ -46,7 +46,7 @@ module _ (h : List Event) (i : ℕ) (f : formed h i ≡ true) where
       (λ (q : j ≡ i + 1 → ⊥). old j t u (omega arith) a b)
       (cases_eq j (i + 1))
 
-  pub alone_begin : begins (event_at h i).kind ≡ true → Alone h i false → Alone h (i + 1) true
+  alone_begin : begins (event_at h i).kind ≡ true → Alone h i false → Alone h (i + 1) true
   alone_begin b s =
       let own : (t : ℕ) → in_flight h t (i + 1) ≡ true → t ≡ thread_at h i = λ t e. ⊎_elim (λ p. p.0) (λ p. absurd (s.none refl t p.1)) (still t e) in
       record {
@@ -55,7 +55,7 @@ module _ (h : List Event) (i : ℕ) (f : formed h i ≡ true) where
         apart = apart_more s.apart (λ t u x y. own t x ∙ sym (own u y));
       }
 
-  pub alone_answer : (busy : Bool) → begins (event_at h i).kind ≡ false → Alone h i busy → Alone h (i + 1) false
+  alone_answer : (busy : Bool) → begins (event_at h i).kind ≡ false → Alone h i busy → Alone h (i + 1) false
   alone_answer busy b s =
       let was : in_flight h (thread_at h i) i ≡ true = flight_before h i f ∙ ap not b in
       let gone : (t : ℕ) → in_flight h t (i + 1) ≡ true → ⊥ =
@@ -65,6 +65,10 @@ module _ (h : List Event) (i : ℕ) (f : formed h i ≡ true) where
         one = λ e. absurd (both_ways false refl e);
         apart = apart_more s.apart (λ t u x y. absurd (gone t x));
       }
+
+  pub alone_more : (busy b : Bool) → begins (event_at h i).kind ≡ b → (b ≡ true → busy ≡ false) → Alone h i busy → Alone h (i + 1) b
+  alone_more busy true e idle s = alone_begin e (subst (Alone h i) (idle refl) s)
+  alone_more busy false e idle s = alone_answer busy e s
 
   -- a begin while a call is in flight
   pub begin_overlaps : i < length h → begins (event_at h i).kind ≡ true → Alone h i true → Apart h (length h) → ⊥

@@ -1,7 +1,7 @@
 -- The replay under way: feeding the queue, and playing an event on it.
-use Rattle.std.proofs.Common.{◌≡◌, ℕ, suc, ◌+◌, ◌-◌, ◌<◌, ◌≤◌, true, false, ◌⊎◌, List, [], ◌∷◌, ◌++◌, length, take, drop, sym, refl, ap, ◌∙◌, subst, inl, inr, ⊎_elim, add-one, arith}
+use Rattle.std.proofs.Common.{◌≡◌, ℕ, suc, ◌+◌, ◌-◌, ◌<◌, ◌≤◌, true, false, ◌⊎◌, List, [], ◌∷◌, ◌++◌, length, take, drop, Ok, sym, refl, ap, ◌∙◌, subst, inl, inr, ⊎_elim, add-one, arith}
 use Rattle.std.specs.List.{between}
-use Rattle.std.proofs.lemmas.List.{append-nil, append_assoc, length-append, length_push, drop_more, nil_from_length}
+use Rattle.std.proofs.lemmas.List.{append-nil, append_assoc, length-append, length_push, length-set, drop_more, nil_from_length}
 use Rattle.std.proofs.lemmas.List.Edits.{between_none, between_more}
 use Rattle.history.specs.Events.{event_at, nothing, is}
 use Rattle.history.specs.declared.event.Event.{Event}
@@ -9,7 +9,7 @@ use Rattle.history.specs.declared.event.Kind.{Kind}
 use Rattle.history.specs.declared.event.Kind.TheVariants.{PutBegun, TakeBegun, Accepted, Full, HandedOut, Empty}
 use Rattle.history.proofs.Positions.{count_mono}
 use Rattle.window.specs.Queue.{Queue, start}
-use Rattle.window.specs.Places.{Places, queue}
+use Rattle.window.specs.Places.{Places, queue, Appended}
 use Rattle.window.specs.Sequential.{Dequeues}
 use Rattle.replay.specs.Run.{Does, Run}
 use Rattle.replay.specs.Playing.{accepted_item, accepted_items, accepted_from, Ready, Playing, Fed, Moves, Plays}
@@ -60,8 +60,9 @@ moves_length k Empty x s t m = omega (arith, does_length k Empty x s t m)
 
 -- AT FIRST
 
-pub playing_at_first : (k : ℕ) (h : List Event) (c : Places ℕ) → queue c ≡ start k → c.k ≡ k → Playing k h 0 0 c
-playing_at_first k h c e s = record {
+pub playing_at_first : (k : ℕ) (h : List Event) (c : Places ℕ) → Ready k h (length c.places) → queue c ≡ start k → c.k ≡ k → Playing k h 0 0 c
+playing_at_first k h c R e s = record {
+  ready = R;
   few = omega (arith, ap (λ (u : Queue ℕ). length u.q) e);
   fed_le = omega arith;
   run = record { states = λ _. start k; starts = refl; goes = λ j lt. absurd (omega arith) };
@@ -74,6 +75,7 @@ module _ (k : ℕ) (h : List Event) (i fed : ℕ) (c : Places ℕ) (within : i <
 
   pub feed_other : fed < i → accepted_item (event_at h fed).kind (event_at h fed).item ≡ [] → Playing k h i (fed + 1) c
   feed_other lt e = record {
+    ready = P.ready;
     fed_le = omega arith;
     run = P.run;
     state = P.state ∙ ap (λ l. record { q = (queue c).q ++ l; w = c.w }) (waiting_first h fed i lt (omega arith) ∙ ap (λ l. l ++ accepted_from h (fed + 1) i) e);
@@ -85,29 +87,31 @@ module _ (k : ℕ) (h : List Event) (i fed : ℕ) (c : Places ℕ) (within : i <
     held : (P.run.states i).q ≡ (queue c).q ++ (x ∷ accepted_from h (fed + 1) i)
     held = ap (λ (u : Queue ℕ). u.q) P.state ∙ ap (λ l. (queue c).q ++ l) (waiting_first h fed i lt (omega arith) ∙ ap (λ l. l ++ accepted_from h (fed + 1) i) one)
 
-    pub feed_one : length (queue c).q < k → (d : Places ℕ) → queue d ≡ record { q = (queue c).q ++ x ∷ []; w = c.w } → d.k ≡ c.k → Playing k h i (fed + 1) d
-    feed_one short d e s = record {
+    pub feed_one : length (queue c).q < k → (d : Places ℕ) → Appended c x (Ok tt) d → Playing k h i (fed + 1) d
+    feed_one short d a = record {
+      ready = subst (Ready k h) (sym (ap length a.1.1.0 ∙ length-set c.places (length (queue c).q) x)) P.ready;
       fed_le = omega arith;
       run = P.run;
       state =
           ap (λ l. record { q = l; w = (P.run.states i).w }) (held ∙ sym (append_assoc (queue c).q (x ∷ []) (accepted_from h (fed + 1) i)))
           ∙ (ap (λ v. record { q = ((queue c).q ++ x ∷ []) ++ accepted_from h (fed + 1) i; w = v }) (ap (λ (u : Queue ℕ). u.w) P.state)
-          ∙ sym (ap (λ (u : Queue ℕ). record { q = u.q ++ accepted_from h (fed + 1) i; w = u.w }) e));
-      k_is = s ∙ P.k_is;
-      few = omega (arith, ap (λ (u : Queue ℕ). length u.q) e, length_push (queue c).q x);
+          ∙ sym (ap (λ (u : Queue ℕ). record { q = u.q ++ accepted_from h (fed + 1) i; w = u.w }) a.1.0));
+      k_is = a.1.1.1 ∙ P.k_is;
+      few = omega (arith, ap (λ (u : Queue ℕ). length u.q) a.1.0, length_push (queue c).q x);
     }
 
     -- a place is unused: there are rows for all items
-    pub has_place : (m : ℕ) → Ready k h m → length (queue c).q < m
-    has_place m R =
+    pub has_place : length (queue c).q < length c.places
+    has_place =
         let n = length-append (queue c).q (x ∷ accepted_from h (fed + 1) i) in
+        let R = P.ready in
         omega (arith, ap length held, n, run_length k h i P.run i (omega arith), accepted_few h R.formed R.apart i (omega arith), count_mono (is 1 h) i (length h) (omega arith), R.rows)
 
 -- PLAYING event i
 
 module _ (k : ℕ) (h : List Event) (i fed : ℕ) (c : Places ℕ) (within : i < length h) (G : Fed k h i fed c) where
   one : 1 ≤ k
-  one = G.ready.size.0
+  one = G.playing.ready.size.0
 
   abbrev rest : List ℕ
   rest = accepted_from h fed i
@@ -118,14 +122,8 @@ module _ (k : ℕ) (h : List Event) (i fed : ℕ) (c : Places ℕ) (within : i <
       let e = ap (λ (u : Queue ℕ). u.w) G.playing.state in
       (omega (arith, w.0), omega (arith, w.1))
 
-  pub play_window : 1 ≤ c.w
-  play_window = window.0
-
   reach : (c.w ≤ length (queue c).q) ⊎ (rest ≡ [])
-  reach = ⊎_elim
-      (λ (far : k ≤ length (queue c).q). inl (omega (arith, window.1)))
-      (λ (all : fed ≡ i). inr (subst (λ (n : ℕ). accepted_from h n i ≡ []) (sym all) (waiting_none h i)))
-      G.reaches
+  reach = ⊎_elim (λ far. inl far) (λ (all : fed ≡ i). inr (subst (λ (n : ℕ). accepted_from h n i ≡ []) (sym all) (waiting_none h i))) G.reaches
 
   -- where nothing is done
   same : (s : Queue ℕ) → s ≡ queue c → ◌≡◌ {A = Queue ℕ} (record { q = s.q ++ (rest ++ []); w = s.w }) (record { q = (queue c).q ++ rest; w = c.w })
@@ -177,6 +175,7 @@ module _ (k : ℕ) (h : List Event) (i fed : ℕ) (c : Places ℕ) (within : i <
       let done = subst (λ (u : Queue ℕ). Does k kind_i item_i u (record { q = (queue d).q ++ (rest ++ accepted_item kind_i item_i); w = d.w })) (sym P.state) (whole kind_i item_i (queue d) moves) in
       let more = run_more k h i P.run (record { q = (queue d).q ++ (rest ++ accepted_item kind_i item_i); w = d.w }) done in
       subst (λ (n : ℕ). Playing k h n fed d) (sym (add-one i)) (record {
+        ready = subst (Ready k h) (sym p.1.1) P.ready;
         fed_le = omega (arith, P.fed_le);
         run = more.0;
         state = more.1 ∙ ap (λ l. record { q = (queue d).q ++ l; w = d.w }) (sym waits);
@@ -187,9 +186,6 @@ module _ (k : ℕ) (h : List Event) (i fed : ℕ) (c : Places ℕ) (within : i <
   pub play_stops : (d : Places ℕ) → Plays kind_i item_i c false d → Run k h (suc i) → ⊥
   play_stops d p r =
       let P = G.playing in
-      let at = runs_agree k one h G.ready.formed (suc i) i r P.run (omega arith) i (omega arith) (omega arith) ∙ P.state in
+      let at = runs_agree k one h G.playing.ready.formed (suc i) i r P.run (omega arith) i (omega arith) (omega arith) ∙ P.state in
       let found = front kind_i item_i (r.states (suc i)) (subst (λ (u : Queue ℕ). Does k kind_i item_i u (r.states (suc i))) at (r.goes i (omega arith))) in
-      p found.0 (subst (λ (n : ℕ). Moves n kind_i item_i (queue c) found.0) (sym P.k_is) found.1)
-
-  pub ready_on : (d : Places ℕ) → Plays kind_i item_i c true d → Ready k h (length d.places)
-  ready_on d p = subst (Ready k h) (sym p.1.1) G.ready
+      p.0 found.0 (subst (λ (n : ℕ). Moves n kind_i item_i (queue c) found.0) (sym P.k_is) found.1)

@@ -38,6 +38,7 @@ pub record Ready (k : ℕ) (h : List Event) (m : ℕ) : Type 0 where
 
 -- before event i, with the acceptances before event fed taken over into the rows
 pub record Playing (k : ℕ) (h : List Event) (i fed : ℕ) (c : Places ℕ) : Type 0 where
+  pub ready : Ready k h (length c.places)
   pub fed_le : fed ≤ i
   pub run : Run k h i
   pub state : run.states i ≡ record { q = (queue c).q ++ accepted_from h fed i; w = c.w }
@@ -45,11 +46,10 @@ pub record Playing (k : ℕ) (h : List Event) (i fed : ℕ) (c : Places ℕ) : T
   -- what keeps a take's cost within k
   pub few : length (queue c).q ≤ k
 
--- the queue in the rows reaches as far as a take may, or is whole
+-- the queue in the rows reaches as far as a take may now, or is whole
 pub record Fed (k : ℕ) (h : List Event) (i fed : ℕ) (c : Places ℕ) : Type 0 where
-  pub ready : Ready k h (length c.places)
   pub playing : Playing k h i fed c
-  pub reaches : (k ≤ length (queue c).q) ⊎ (fed ≡ i)
+  pub reaches : (c.w ≤ length (queue c).q) ⊎ (fed ≡ i)
 
 -- a place where x stands, as far as the window reaches
 abbrev pub PlaceOf : Queue ℕ → ℕ → Option ℕ → Type 0
@@ -67,4 +67,4 @@ Moves k Empty x s t = Does k Empty x s t
 
 abbrev pub Plays : Kind → ℕ → Places ℕ → Bool → Places ℕ → Type 0
 Plays e x c true d = Moves c.k e x (queue c) (queue d) × ((d.k ≡ c.k) × (length d.places ≡ length c.places))
-Plays e x c false d = (t : Queue ℕ) → Moves c.k e x (queue c) t → ⊥
+Plays e x c false d = ((t : Queue ℕ) → Moves c.k e x (queue c) t → ⊥) × (d ≡ c)

@@ -12,15 +12,11 @@ pub fn one_at_a_time(history: &[Event]) -> bool
 {
     let mut busy = false;
     for event in history {
-        match event.kind {
-            Kind::PutBegun | Kind::TakeBegun => {
-                if busy {
-                    return false;
-                }
-                busy = true;
-            }
-            _ => busy = false,
+        let begins = matches!(event.kind, Kind::PutBegun | Kind::TakeBegun);
+        if busy && begins {
+            return false;
         }
+        busy = begins;
     }
     true
 }

@@ -2,7 +2,6 @@
 #![tactic(auto)]
 
 mod alone;
-pub mod outcome;
 mod play;
 pub mod replay;
 pub mod theorems;

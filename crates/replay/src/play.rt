@@ -1,5 +1,4 @@
 // Events played on the window queue.
-ghost use Rattle.std.specs.Prelude.{◌≤◌};
 ghost use Rattle.window.specs.Places.{content, queue};
 ghost use Rattle.replay.specs.Playing.{PlaceOf, Plays};
 
@@ -11,9 +10,7 @@ fn place_of(waiting: &WindowQueue<u32>, item: u32) -> Option<usize>
     ensures { PlaceOf (queue (content waiting.now)) item result }
 {
     for i in 1..=waiting.window() as usize {
-        if let Some(x) = waiting.at(i)
-            && x == item
-        {
+        if waiting.at(i) == Some(item) {
             return Some(i);
         }
     }
@@ -22,7 +19,6 @@ fn place_of(waiting: &WindowQueue<u32>, item: u32) -> Option<usize>
 
 // Plays an event on the queue, but for acceptances, which are fed to it apart; false where the event is not allowed, and the queue then stays.
 pub fn play(waiting: &mut WindowQueue<u32>, event: Event) -> bool
-    requires { 1 ≤ (queue (content waiting.old)).w }
     ensures { Plays event.kind event.item (content waiting.old) result (content waiting.new) }
 {
     match event.kind {

@@ -1,3 +1,2 @@
-pub mod Pulled
 pub mod Takes
 pub mod Lines

@@ -1,9 +1,9 @@
 -- Taking a place, over the places and how many of them are in use.
-use Rattle.std.proofs.Common.{◌≡◌, ℕ, zero, suc, ◌-◌, ◌<◌, ◌≤◌, min, cond, leb, List, [], ◌++◌, length, get_or, take, drop, sym, refl, ap, ◌∙◌, ⊎_elim, arith}
-use Rattle.std.specs.List.{remove}
-use Rattle.std.proofs.lemmas.List.{length-take, take_all, take_at, get_or-take, nil_from_length}
-use Rattle.std.proofs.lemmas.List.Edits.{length-remove}
-use Rattle.std.proofs.lemmas.Bool.{cases_lt, cond-false, lt-leb}
+use Rattle.std.proofs.Common.{◌≡◌, ℕ, zero, suc, ◌+◌, ◌-◌, ◌<◌, ◌≤◌, cond, leb, List, ◌++◌, length, take, drop, sym, refl, ap, ◌∙◌, add-one, arith}
+use Rattle.std.specs.List.{remove, copy_within}
+use Rattle.std.proofs.lemmas.List.{append_assoc, drop-append-le, length-drop, length-take-le, take-append-drop, take_at}
+use Rattle.std.proofs.lemmas.List.Edits.{length-remove, paste_all}
+use Rattle.std.proofs.lemmas.Bool.{cond-false, lt-leb}
 use Rattle.window.specs.Queue.{Queue, Allowed, taken}
 
 -- the two ways to say that a place from 1 is allowed, and what a take there leaves
@@ -24,43 +24,37 @@ module _ {E : Type 0} (s : Queue E) where
       ap (λ j. record { q = remove s.q j; w = s.w - 1 }) place
       ∙ ap (λ v. record { q = remove s.q (suc (suc i) - 1); w = v }) (sym (cond-false (leb (suc (suc i)) 1) k (s.w - 1) (lt-leb (suc (suc i)) 1 (omega arith))))
 
--- n of the places are in use
-module _ {E : Type 0} (xs : List E) (len n : ℕ) (is : n ≡ length (take len xs)) where
-  in_use : n ≡ min len (length xs)
-  in_use = is ∙ length-take len xs
+-- what moving the elements behind a place to the front comes to
+pub closed_up : {E : Type 0} (xs : List E) (at : ℕ) → at < length xs → copy_within xs (at + 1) (length xs) at ≡ remove xs at ++ drop (length xs - 1) xs
+closed_up xs at lt =
+    let end : at + (length xs - (at + 1)) ≡ length xs - 1 = omega arith in
+    paste_all xs at (drop (at + 1) xs) (length xs - (at + 1)) (sym (length-drop (at + 1) xs))
+    ∙ (ap (λ m. take at xs ++ (drop (at + 1) xs ++ drop m xs)) end
+    ∙ (sym (append_assoc (take at xs) (drop (at + 1) xs) (drop (length xs - 1) xs))
+    ∙ ap (λ m. (take at xs ++ drop m xs) ++ drop (length xs - 1) xs) (add-one at)))
 
-  front_same : take n xs ≡ take len xs
-  front_same = ⊎_elim
-      (λ h. ap (λ k. take k xs) (omega (arith, in_use)))
-      (λ h. ap (λ k. take k xs) in_use ∙ (take_all (min len (length xs)) xs (omega arith) ∙ sym (take_all len xs h)))
-      (cases_lt len (length xs))
+-- the first len places are in use, and those were closed up over place i
+module _ {E : Type 0} (xs ys : List E) (len i : ℕ) (one : 1 ≤ i) (there : i ≤ len) (within : len ≤ length xs)
+    (pulled : ys ≡ remove (take len xs) (i - 1) ++ drop (length (take len xs) - 1) (take len xs)) where
+  all : length (take len xs) ≡ len
+  all = length-take-le len xs within
 
-  pub front_element : (i : ℕ) (x : E) → 1 ≤ i → i ≤ n → x ≡ get_or xs (i - 1) x → x ≡ get_or (take len xs) (i - 1) x
-  front_element i x one in-q e = e ∙ sym (get_or-take len xs (i - 1) x (omega (arith, in_use)))
+  pub places_after : ys ++ drop len xs ≡ remove (take len xs) (i - 1) ++ drop (length (take len xs) - 1) xs
+  places_after =
+      let q = take len xs in
+      let last = sym (drop-append-le (length q - 1) q (drop len xs) (omega (arith, all))) ∙ ap (drop (length q - 1)) (take-append-drop len xs) in
+      ap (λ l. l ++ drop len xs) pulled
+      ∙ (append_assoc (remove q (i - 1)) (drop (length q - 1) q) (drop len xs) ∙ ap (λ l. remove q (i - 1) ++ l) last)
 
-  pub front_empty : n ≡ 0 → take len xs ≡ []
-  front_empty z = nil_from_length (take len xs) (sym is ∙ z)
+  left : take (len - 1) (ys ++ drop len xs) ≡ remove (take len xs) (i - 1)
+  left =
+      let q = take len xs in
+      ap (take (len - 1)) places_after
+      ∙ take_at (remove q (i - 1)) (drop (length q - 1) xs) (len - 1) (omega (arith, all, length-remove q (i - 1) (omega (arith, all))))
 
-  pub front_not_empty : 0 < n → take len xs ≡ [] → ⊥
-  front_not_empty some e = omega (arith, ap length e)
-
-  -- what the places hold after a take, and the queue that they then show
-  module _ (w k i : ℕ) (one : 1 ≤ i) (in-q : i ≤ n) (ys : List E) (v : ℕ)
-      (pulled : ys ≡ remove (take n xs) (i - 1) ++ drop (n - 1) xs) (after : v ≡ cond (leb i 1) k (w - 1)) where
-    pub places_after : ys ≡ remove (take len xs) (i - 1) ++ drop (length (take len xs) - 1) xs
-    places_after =
-        pulled
-        ∙ (ap (λ l. remove l (i - 1) ++ drop (n - 1) xs) front_same
-        ∙ ap (λ m. remove (take len xs) (i - 1) ++ drop (m - 1) xs) is)
-
-    left : take (n - 1) ys ≡ remove (take len xs) (i - 1)
-    left =
-        let m = length-remove (take len xs) (i - 1) (omega arith) in
-        ap (take (n - 1)) places_after
-        ∙ take_at (remove (take len xs) (i - 1)) (drop (length (take len xs) - 1) xs) (n - 1) (omega (arith, m))
-
-    pub queue_after : ◌≡◌ {A = Queue E} (record { q = take (n - 1) ys; w = v }) (taken k (record { q = take len xs; w = w }) i)
-    queue_after =
-        ap (λ l. record { q = l; w = v }) left
-        ∙ (ap (λ x. record { q = remove (take len xs) (i - 1); w = x }) after
-        ∙ sym (taken_at (record { q = take len xs; w = w }) k i one))
+  -- and the queue that they then show
+  pub queue_after : (w k v : ℕ) → v ≡ cond (leb i 1) k (w - 1)
+      → ◌≡◌ {A = Queue E} (record { q = take (len - 1) (ys ++ drop len xs); w = v }) (taken k (record { q = take len xs; w = w }) i)
+  queue_after w k v after =
+      ap (λ l. record { q = l; w = v }) left
+      ∙ (ap (λ u. record { q = remove (take len xs) (i - 1); w = u }) after ∙ sym (taken_at (record { q = take len xs; w = w }) k i one))

@@ -15,10 +15,15 @@ pub record Places (E : Type 0) : Type 0 where
 
 module _ {E : Type 0} where
   abbrev pub content : WindowQueue E → Places E
-  content s = record { places = s.places.now; len = s.len; w = s.window; k = s.k }
+  content s = record { places = s.places.now; len = s.len; w = s.window; k = s.limit.k.number }
 
   abbrev pub queue : Places E → Queue E
   queue c = record { q = take c.len c.places; w = c.w }
+
+  -- an element written at an index, or refused where there is no such place
+  abbrev pub Put : List E → ℕ → E → Result Unit Refusal → List E → Type 0
+  Put xs at x (Ok u) ys = (at < length xs) × (ys ≡ slice_set xs at x)
+  Put xs at x (Err r) ys = (length xs ≤ at) × ((refusal_number r ≡ 17) × (ys ≡ xs))
 
   -- a queue newly made over these places
   abbrev pub Made : List E → ℕ → Places E → Type 0

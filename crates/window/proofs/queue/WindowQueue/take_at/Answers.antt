@@ -1,34 +1,28 @@
-use Rattle.std.proofs.Common.{◌-◌, get_or, sym, refl, ap, ◌∙◌, ⊎_elim, arith}
-use Rattle.std.proofs.lemmas.List.{length-take}
+use Rattle.std.proofs.Common.{◌≡◌, ◌-◌, cond, leb, get_or, sym, refl, ap, ◌∙◌, arith}
+use Rattle.std.proofs.lemmas.List.{get_or-take, length-take-le}
+use Rattle.std.proofs.lemmas.Bool.Decides.{nat_tests}
 use Rattle.window.specs.Places.{content, queue}
-use Rattle.window.proofs.Takes.{allowed_parts, allowed_from, front_element, places_after, queue_after}
+use Rattle.window.proofs.Takes.{allowed_from, places_after, queue_after}
 use Rattle.window.proofs.queue.WindowQueue.take_at.Goals as goal
-
-pub returns-then-i-self : goal.returns-then-i-self
-returns-then-i-self g c =
-    let s = c.args.self.now in
-    let is = c.min-len.ensures ∙ sym (length-take s.len s.places.now) in (
-      λ a. let p = allowed_parts (queue (content c.args.self.now)) c.args.i (omega arith) a in
-          ⊎_elim (λ far. omega (arith, far)) (λ past. omega (arith, past.1, is)) c.then-i-self.either,
-      (refl, refl),
-    )
+use Rattle.window.proofs.queue.WindowQueue.take_at.Goals.{then-i-eq1, else-i-eq1}
 
 pub returns : goal.returns
 returns g c =
     let s = c.args.self.now in
     let xs = s.places.now in
-    let n = c.min-len.result in
-    let is = c.min-len.ensures ∙ sym (length-take s.len s.places.now) in
-    let x = get_or xs (c.args.i - 1) c.index-self-i.result in (
-      ((omega arith, omega (arith, is)), front_element xs s.len n is c.args.i x (omega arith) (omega arith) (ap (λ y. get_or xs (c.args.i - 1) y) c.index-self-i.is)),
+    let ys = c.pull.new.used in
+    let i = c.args.i in
+    let all = length-take-le s.len xs s.within in
+    let w : c.if-i-eq1.self ≡ cond (leb i 1) s.limit.k.number (s.window - 1) = elim c.if-i-eq1.branch [
+      | then-i-eq1 w ↦ grind (arith, nat_tests)
+      | else-i-eq1 w ↦ grind (arith, nat_tests)
+    ] in (
+      ((omega arith, omega (arith, all)), ap (get_or xs (i - 1)) c.index-self-i.is ∙ sym (get_or-take s.len xs (i - 1) _ (omega arith))),
       (
-        allowed_from (queue (content s)) c.args.i (omega arith) (omega arith) (omega (arith, is)),
+        allowed_from (queue (content s)) i (omega arith) (omega arith) (omega (arith, all)),
         (
-          queue_after xs s.len n is s.window s.k c.args.i (omega arith) (omega arith) c.pull.new.places c.window_after-self.result c.pull.ensures c.window_after-self.ensures,
-          (places_after xs s.len n is s.window s.k c.args.i (omega arith) (omega arith) c.pull.new.places c.window_after-self.result c.pull.ensures c.window_after-self.ensures, refl),
+          queue_after xs ys s.len i (omega arith) (omega arith) s.within c.pull.ensures s.window s.limit.k.number c.if-i-eq1.self w,
+          (places_after xs ys s.len i (omega arith) (omega arith) s.within c.pull.ensures, refl),
         ),
       ),
     )
-
-pub take_nothing-requires : goal.take_nothing-requires
-take_nothing-requires g c = let s = c.args.self.now in c.min-len.ensures ∙ sym (length-take s.len s.places.now)
