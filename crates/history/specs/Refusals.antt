@@ -15,12 +15,12 @@ refusal_number Overlap = 16
 
 -- the number as text, with the event behind it where the refusal names one
 abbrev pub refusal_text : Refusal → List ℕ
-refusal_text SegmentSize = decimal 1
-refusal_text Segments = decimal 2
-refusal_text TooLong = decimal 13
-refusal_text (Malformed e) = decimal 14 ++ (codes ":" ++ decimal e)
-refusal_text TooFewRows = decimal 15
-refusal_text Overlap = decimal 16
+refusal_text SegmentSize = decimal (refusal_number SegmentSize)
+refusal_text Segments = decimal (refusal_number Segments)
+refusal_text TooLong = decimal (refusal_number TooLong)
+refusal_text (Malformed e) = decimal (refusal_number (Malformed e)) ++ (codes ":" ++ decimal e)
+refusal_text TooFewRows = decimal (refusal_number TooFewRows)
+refusal_text Overlap = decimal (refusal_number Overlap)
 
 -- the event that a refusal names is the first that is not well formed
 abbrev pub Names : List Event → Refusal → Type 0

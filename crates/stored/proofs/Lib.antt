@@ -3,4 +3,3 @@ pub mod Words
 pub mod SoFar
 pub mod Inputs
 pub mod Reports
-pub mod Printing

@@ -1,10 +1,9 @@
 -- The lines that are printed of a stored history.
 use Rattle.std.specs.Prelude.{◌≡◌, ℕ, List, [], ◌∷◌, ◌++◌, Ok, Err, codes, decimal, Result}
-use Rattle.history.specs.Refusals.{refusal_number}
+use Rattle.history.specs.Refusals.{refusal_text}
 use Rattle.history.specs.declared.refusal.Refusal.{Refusal}
-use Rattle.history.specs.declared.refusal.Refusal.TheVariants.{SegmentSize, Segments, TooLong, Malformed, TooFewRows, Overlap}
 use Rattle.judge.specs.VerdictText.{verdict_text}
-use Rattle.text.specs.Refusal.{code}
+use Rattle.text.specs.Refusal.{bad_line_text}
 use Rattle.text.specs.declared.line.BadLine.{BadLine}
 use Rattle.stored.specs.declared.report.Replay.{Replay}
 use Rattle.stored.specs.declared.report.Replay.TheVariants as replay
@@ -23,19 +22,10 @@ replay_text (replay.Stops e) = decimal e
 replay_text replay.Overlap = codes "overlap"
 
 abbrev pub bad_text : BadLine → List ℕ
-bad_text bad = codes "bad=" ++ (decimal bad.line ++ (codes ":" ++ (decimal (code bad.reason) ++ newline)))
-
--- the event that a refusal names stands behind its number
-abbrev pub named_text : Refusal → List ℕ
-named_text SegmentSize = newline
-named_text Segments = newline
-named_text TooLong = newline
-named_text (Malformed e) = codes ":" ++ (decimal e ++ newline)
-named_text TooFewRows = newline
-named_text Overlap = newline
+bad_text bad = codes "bad=" ++ (bad_line_text bad ++ newline)
 
 abbrev pub refused_text : Refusal → List ℕ
-refused_text r = codes "refused=" ++ (decimal (refusal_number r) ++ named_text r)
+refused_text r = codes "refused=" ++ (refusal_text r ++ newline)
 
 abbrev pub report_text : Report → List ℕ
 report_text r = codes "events=" ++ (decimal r.events ++ (newline ++ codes "verdict=" ++ (verdict_text r.verdict ++ (newline ++ codes "replay=" ++ (replay_text r.replay ++ newline)))))

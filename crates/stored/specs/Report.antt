@@ -1,5 +1,5 @@
 -- What is reported of a stored history.
-use Rattle.std.specs.Prelude.{◌≡◌, ℕ, List, length, Ok, Err, Result}
+use Rattle.std.specs.Prelude.{◌≡◌, ℕ, List, length, Some, None, Ok, Err, Result}
 use Rattle.history.specs.Asked.{history_questions}
 use Rattle.history.specs.Calls.{Apart}
 use Rattle.history.specs.Limits.{most, SegmentFits}
@@ -10,7 +10,6 @@ use Rattle.history.specs.declared.refusal.Refusal.{Refusal}
 use Rattle.judge.specs.Answers.{judge_questions}
 use Rattle.judge.specs.Verdicts.{Judged}
 use Rattle.replay.specs.Answer.{Replays}
-use Rattle.replay.specs.declared.outcome.Outcome.TheVariants as outcome
 use Rattle.text.specs.Lines.{lines}
 use Rattle.stored.specs.Input.{Holds, BadInput}
 use Rattle.stored.specs.declared.fault.Fault.{Fault}
@@ -21,8 +20,8 @@ use Rattle.stored.specs.declared.report.Report.{Report}
 
 -- what the replay tells of a history
 abbrev pub Tells : ℕ → List Event → Replay → Type 0
-Tells k h Whole = Apart h (length h) × Replays k h outcome.Whole
-Tells k h (Stops e) = Apart h (length h) × Replays k h (outcome.Stops e)
+Tells k h Whole = Apart h (length h) × Replays k h None
+Tells k h (Stops e) = Apart h (length h) × Replays k h (Some e)
 Tells k h Overlap = Apart h (length h) → ⊥
 
 abbrev pub ReplayGiven : ℕ → List Event → ℕ → Result Replay Refusal → Type 0

@@ -7,13 +7,14 @@ use std::alloc::{AllocError, AllocFailed};
 use text::BadLine;
 
 // A line that cannot be taken, a history that is refused, or want of memory.
-#[derive(Clone, Copy)]
+#[derive(Clone, Copy, Debug, PartialEq, Eq)]
 pub enum Fault {
     Bad(BadLine),
     Refused(Refusal),
     Memory,
 }
 
+// Written out, since a derived From has no clause that says which fault a `?` makes.
 impl From<BadLine> for Fault {
     ghost from_gives = { λ bad r. r ≡ Bad bad };
 

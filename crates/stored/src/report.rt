@@ -10,19 +10,18 @@ use history::rows::MOST;
 use judge::judge::judge;
 use judge::row::Row;
 use judge::verdict::Verdict;
-use replay::outcome::Outcome;
 use replay::replay::replay;
 use std::alloc::Global;
 
 // Stops names the first event that the window queue does not allow, counted from 0.
-#[derive(Clone, Copy)]
+#[derive(Clone, Copy, Debug, PartialEq, Eq)]
 pub enum Replay {
     Whole,
     Stops(usize),
     Overlap,
 }
 
-#[derive(Clone, Copy)]
+#[derive(Clone, Copy, Debug, PartialEq, Eq)]
 pub struct Report {
     pub events: usize,
     pub verdict: Verdict,
@@ -34,8 +33,8 @@ fn replayed(history: &[Event], k: u32, rows: &mut [u32]) -> Result<Replay, Refus
     ensures { ReplayGiven k history.now (length rows.old) result }
 {
     match replay(history, k, rows) {
-        Ok(Outcome::Whole) => Ok(Replay::Whole),
-        Ok(Outcome::Stops(event)) => Ok(Replay::Stops(event)),
+        Ok(None) => Ok(Replay::Whole),
+        Ok(Some(event)) => Ok(Replay::Stops(event)),
         Err(Refusal::Overlap) => Ok(Replay::Overlap),
         Err(refusal) => Err(refusal),
     }

@@ -113,15 +113,10 @@ fn the_table_is_printed(rt: HostRuntime) -> Result<(), Fail> {
 }
 
 // An empty queue taken from, as many times as there are pairs of events, and one begin more where the number is odd.
-fn empty_takes(heap: Global, events: u32) -> Result<String, AllocError> {
-    let mut text = String::from_str(heap, "k=1\nsegments=2\n")?;
-    for _ in 0..events / 2 {
-        text.push_str("take=0\nempty=0\n")?;
-    }
-    if events % 2 == 1 {
-        text.push_str("take=0\n")?;
-    }
-    Ok(text)
+fn empty_takes(heap: Global, events: usize) -> Result<String, AllocError> {
+    let pairs = "take=0\nempty=0\n".repeat(heap, events / 2)?;
+    let last = if events % 2 == 1 { "take=0\n" } else { "" };
+    format!(in heap; "k=1\nsegments=2\n{pairs}{last}")
 }
 
 #[test]
@@ -140,12 +135,9 @@ fn events_up_to_the_limit_are_read(rt: HostRuntime) -> Result<(), Fail> {
 }
 
 // A line of a take with as many zeros as make it this long.
-fn long_take(heap: Global, length: u32) -> Result<String, AllocError> {
-    let mut text = String::from_str(heap, "k=1\nsegments=2\ntake=")?;
-    for _ in 5..length {
-        text.push_str("0")?;
-    }
-    Ok(text)
+fn long_take(heap: Global, length: usize) -> Result<String, AllocError> {
+    let zeros = "0".repeat(heap, length.saturating_sub(5))?;
+    format!(in heap; "k=1\nsegments=2\ntake={zeros}")
 }
 
 #[test]

@@ -5,7 +5,7 @@ ghost use Rattle.worked_rows.specs.Table.{Table};
 
 use judge::theorems::worked_rows_stand;
 
-pub fn table_stands() -> u8
+pub fn table_stands()
     ensures { Table }
 {
     worked_rows_stand()
