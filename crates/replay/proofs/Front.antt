@@ -1,5 +1,5 @@
 -- The front of the queue stands for the queue: what it allows, and what the whole queue allows, as far as a take may reach.
-use Rattle.std.proofs.Common.{◌≡◌, ℕ, ◌+◌, ◌-◌, ◌<◌, ◌≤◌, ◌⊎◌, List, [], ◌∷◌, ◌++◌, length, get_or, take, drop, sym, refl, ap, ◌∙◌, subst, inl, inr, ⊎_elim, arith}
+use Rattle.std.proofs.Common.{◌≡◌, ℕ, suc, ◌-◌, ◌<◌, ◌≤◌, ◌⊎◌, List, [], ◌∷◌, ◌++◌, length, get_or, take, drop, sym, refl, ap, ◌∙◌, subst, inl, inr, ⊎_elim, arith}
 use Rattle.std.proofs.lemmas.List.{append-nil, append_assoc, length-take-le, get_or_append_left, get_or_at}
 use Rattle.window.specs.Queue.{Queue}
 use Rattle.window.specs.Sequential.{Dequeues, DequeuesOldest, DequeuesLater}
@@ -35,10 +35,10 @@ later_of_front k x w front rest t le d =
     let lt : n < length front = omega (arith, d.within) in
     let there : x ≡ get_or front n x = sym (sym (get_or_append_left front rest x n lt) ∙ (ap (λ l. get_or l n x) d.was ∙ get_or_at d.older x d.younger x n refl)) in
     let m = length-take-le n front (omega arith) in (
-      record { q = take n front ++ drop (n + 1) front; w = w - 1 },
+      record { q = take n front ++ drop (suc n) front; w = w - 1 },
       inr (record {
         older = take n front;
-        younger = drop (n + 1) front;
+        younger = drop (suc n) front;
         some_older = omega (arith, m, d.some_older);
         within = omega (arith, m, d.within);
         was = around front n x lt there;

@@ -9,6 +9,7 @@ use window::queue::WindowQueue;
 fn place_of(waiting: &WindowQueue<u32>, item: u32) -> Option<usize>
     ensures { PlaceOf (queue (content waiting.now)) item result }
 {
+    // No `find`: tried, and it is not proved that a place which its closure passes over does not have the item.
     for i in 1..=waiting.window() as usize {
         if waiting.at(i) == Some(item) {
             return Some(i);

@@ -15,6 +15,7 @@ use window::queue::WindowQueue;
 
 // Appends the items that were accepted from event `fed` on, before event `i`, until the queue has as many as a take may reach now.
 // So the queue never holds more than k items, and a take moves no more than k: the items behind them wait in the history itself.
+// No struct holds the queue, the history and `fed`: only this function moves `fed` on, and in a field it would be counted up by hand.
 fn feed(waiting: &mut WindowQueue<u32>, history: &[Event], fed: usize, i: usize) -> usize
     requires within { i < length history.now }
     requires playing { Playing (content waiting.old).k history.now i fed (content waiting.old) }

@@ -1,7 +1,9 @@
 -- The window queue's calls are those of the sequential specification.
-use Rattle.std.proofs.Common.{◌≡◌, ℕ, zero, suc, ◌+◌, ◌-◌, ◌<◌, ◌≤◌, cond, leb, List, [], ◌∷◌, ◌++◌, length, get_or, take, drop, sym, refl, ap, ◌∙◌, inl, inr, ⊎_elim, arith}
+use Rattle.std.proofs.Common.{◌≡◌, ℕ, zero, suc, ◌+◌, ◌-◌, ◌<◌, ◌≤◌, cond, leb, List, ◌∷◌, ◌++◌, length, get_or, take, drop, sym, refl, ap, ◌∙◌, inl, inr, ⊎_elim, arith}
 use Rattle.std.specs.List.{remove}
-use Rattle.std.proofs.lemmas.List.{append_assoc, take-append-drop, drop_more, length-take-le, length-append, length_push, take_at, drop_at, get_or_at}
+use Rattle.std.proofs.lemmas.List.{length-take-le, length-append, get_or_at}
+use Rattle.std.proofs.lemmas.List.Edits.{remove-append_right}
+use Rattle.std.proofs.Math.Seq.{split_at}
 use Rattle.std.proofs.lemmas.Bool.{cond-false, lt-leb}
 use Rattle.window.specs.Queue.{Queue, appended, Allowed, taken}
 use Rattle.window.specs.Sequential.{DequeuesOldest, DequeuesLater, Dequeues}
@@ -13,24 +15,20 @@ module _ {E : Type 0} where
   same_queue s t a b = ap (λ l. record { q = l; w = s.w }) a ∙ ap (λ v. record { q = t.q; w = v }) b
 
   -- a list around one of its places
-  pub around : (xs : List E) (i : ℕ) (x : E) → i < length xs → x ≡ get_or xs i x → xs ≡ take i xs ++ x ∷ drop (i + 1) xs
-  around xs i x lt e = sym (take-append-drop i xs) ∙ (ap (λ l. take i xs ++ l) (drop_more xs i x lt) ∙ ap (λ y. take i xs ++ y ∷ drop (i + 1) xs) (sym e))
+  pub around : (xs : List E) (i : ℕ) (x : E) → i < length xs → x ≡ get_or xs i x → xs ≡ take i xs ++ x ∷ drop (suc i) xs
+  around xs i x lt e = split_at xs i x lt ∙ ap (λ y. take i xs ++ y ∷ drop (suc i) xs) (sym e)
 
   -- a list without the place behind its first part
   without : (older younger : List E) (x : E) → remove (older ++ x ∷ younger) (length older) ≡ older ++ younger
   without older younger x =
-      let front = take_at older (x ∷ younger) (length older) refl in
-      let whole = append_assoc older (x ∷ []) younger in
-      let back : drop (suc (length older)) (older ++ x ∷ younger) ≡ younger =
-      ap (drop (suc (length older))) (sym whole) ∙ drop_at (older ++ x ∷ []) younger (suc (length older)) (omega (arith, length_push older x)) in
-      ap (λ l. l ++ drop (suc (length older)) (older ++ x ∷ younger)) front ∙ ap (λ l. older ++ l) back
+      let here : length older - length older ≡ 0 = omega arith in
+      remove-append_right older (x ∷ younger) (length older) (length older) refl (omega arith) ∙ ap (λ i. older ++ remove (x ∷ younger) i) here
 
   module _ (k : ℕ) (s t : Queue E) (x : E) where
     to_line : (i : ℕ) → Stands E s i x → Allowed s i → t ≡ taken k s i → Dequeues k s x t
     to_line zero st al e = absurd (omega (arith, st.from_1))
     to_line (suc zero) st al e = inl (around s.q 0 x (omega (arith, st.within)) st.there ∙ ap (λ l. x ∷ l) (sym (ap (λ u. u.q) e)), ap (λ u. u.w) e)
     to_line (suc (suc i)) st al e =
-        let next : suc i + 1 ≡ suc (suc i) = omega arith in
         let place : suc (suc i) - 1 ≡ suc i = omega arith in
         let there : x ≡ get_or s.q (suc i) x = st.there ∙ ap (λ j. get_or s.q j x) place in
         inr (record {
@@ -38,7 +36,7 @@ module _ {E : Type 0} where
           younger = drop (suc (suc i)) s.q;
           some_older = omega (arith, length-take-le (suc i) s.q (omega (arith, al.1)));
           within = omega (arith, length-take-le (suc i) s.q (omega (arith, al.1)), al.0);
-          was = around s.q (suc i) x (omega (arith, al.1)) there ∙ ap (λ n. take (suc i) s.q ++ x ∷ drop n s.q) next;
+          was = around s.q (suc i) x (omega (arith, al.1)) there;
           left = ap (λ u. u.q) e;
           narrower = omega (arith, ap (λ u. u.w) e, al.0);
         })
