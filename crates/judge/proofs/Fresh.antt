@@ -12,10 +12,11 @@ use Rattle.judge.specs.State.{holds, ItemsAre, Ready, Fresh}
 use Rattle.judge.specs.Walk.{free}
 use Rattle.judge.specs.declared.row.Row.{Row}
 use Rattle.judge.specs.declared.seen.Seen.{Seen}
+use Rattle.judge.proofs.Rows.{position_some}
 use Rattle.judge.proofs.Known.{row_at, free_holds, own_row}
 use Rattle.judge.proofs.Counting.{later}
 
-module _ {k : ℕ} {h : List Event} {i : ℕ} {rows : List Row} {s : Seen} (K : Fresh k h i rows s) where
+module _ {k : ℕ} {h : List Event} {i put_at : ℕ} {rows : List Row} {s : Seen} (K : Fresh k h i put_at rows s) where
   R : Ready k h i (length rows)
   R = K.ready
 
@@ -28,18 +29,11 @@ module _ {k : ℕ} {h : List Event} {i : ℕ} {rows : List Row} {s : Seen} (K : 
   pub own_row_is : get_or rows (item_at h i - 1) blank ≡ row_of h i (item_at h i)
   own_row_is = own_row k h i rows s R I five K.in_rows
 
-  -- the event that began the put
-  abbrev pub put_at : ℕ
-  put_at = (get_or rows (item_at h i - 1) blank).began - 1
-
   not_out_before : handed_out h i (item_at h i) ≡ false
   not_out_before = ap (λ (r : Row). r.handed) (sym own_row_is) ∙ K.not_handed
 
-  later_began : (get_or rows (item_at h i - 1) blank).began ≡ suc put_at
-  later_began = omega (arith, K.began)
-
   pub put_is : (put_at < i) × ((tells 1 h (item_at h i) put_at ≡ true) × ((m : ℕ) → put_at < m → m < i → tells 1 h (item_at h i) m ≡ false))
-  put_is = last_is (tells 1 h (item_at h i)) i put_at (ap (λ (r : Row). r.began) (sym own_row_is) ∙ later_began)
+  put_is = last_is (tells 1 h (item_at h i)) i put_at (position_some _ put_at (ap (λ (r : Row). r.began) (sym own_row_is) ∙ K.began))
 
   pub no_fault1 : Fault1 h i → ⊥
   no_fault1 f = ⊎_elim

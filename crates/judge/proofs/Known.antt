@@ -1,5 +1,5 @@
 -- What the rows know of an item and of the acceptances.
-use Rattle.std.proofs.Common.{◌≡◌, ℕ, suc, ◌-◌, ◌<◌, ◌≤◌, true, false, not, ◌&&◌, ltb, List, length, get_or, sym, refl, ap, ◌∙◌, inl, inr, ⊎_elim, arith}
+use Rattle.std.proofs.Common.{◌≡◌, ℕ, suc, ◌-◌, ◌<◌, ◌≤◌, true, false, not, ◌&&◌, ltb, List, length, get_or, None, sym, refl, ap, ◌∙◌, inl, inr, ⊎_elim, arith}
 use Rattle.std.proofs.lemmas.Bool.{eqb-true, and_parts, and_left, cases_Bool, ltb-true}
 use Rattle.history.specs.Events.{kind_at, item_at, is, tells}
 use Rattle.history.specs.Calls.{puts_before}
@@ -14,6 +14,7 @@ use Rattle.judge.specs.State.{holds, ItemsAre, Ready}
 use Rattle.judge.specs.Walk.{free}
 use Rattle.judge.specs.declared.row.Row.{Row}
 use Rattle.judge.specs.declared.seen.Seen.{Seen}
+use Rattle.judge.proofs.Rows.{position_none}
 use Rattle.judge.proofs.Held.{holds_is}
 
 pub row_at : (h : List Event) (i x : ℕ) (rows : List Row) → RowsAre h i rows → 0 < x → x - 1 < length rows → get_or rows (x - 1) blank ≡ row_of h i x
@@ -50,8 +51,8 @@ module _ (k : ℕ) (h : List Event) (i : ℕ) (rows : List Row) (s : Seen) (R : 
   pub own_row : get_or rows (item_at h i - 1) blank ≡ row_of h i (item_at h i)
   own_row = row_at h i (item_at h i) rows I.rows_are pos_x in_rows
 
-  pub unbegun : (get_or rows (item_at h i - 1) blank).began ≡ 0 → Fault1 h i
-  unbegun e = inl (five, inl (last_none (tells 1 h (item_at h i)) i (ap (λ (r : Row). r.began) (sym own_row) ∙ e)))
+  pub unbegun : (get_or rows (item_at h i - 1) blank).began ≡ None → Fault1 h i
+  unbegun e = inl (five, inl (last_none (tells 1 h (item_at h i)) i (position_none _ (ap (λ (r : Row). r.began) (sym own_row) ∙ e))))
 
   pub was_refused : (get_or rows (item_at h i - 1) blank).refused ≡ true → Fault1 h i
   was_refused e = inl (five, inr (inl (ap (λ (r : Row). r.refused) (sym own_row) ∙ e)))

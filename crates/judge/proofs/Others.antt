@@ -27,12 +27,12 @@ module _ (k : ℕ) (h : List Event) (i : ℕ) (rows : List Row) (s : Seen) (R : 
   pub answer_place : (c : ℕ) → (c ≡ 3) ⊎ (c ≡ 4) → kind_at h i ≡ c → (0 < item_at h i) × (item_at h i - 1 < length rows)
   answer_place c w e = let b = answered_few h R.formed c i w R.within e in (b.0, omega (arith, b.0, b.1, R.fit))
 
-  pub put_next : kind_at h i ≡ 1 → (r : Row) → r ≡ row_begun (i + 1) (get_or rows (item_at h i - 1) blank)
+  pub put_next : kind_at h i ≡ 1 → (r : Row) → r ≡ row_begun i (get_or rows (item_at h i - 1) blank)
       → ItemsAre k h (i + 1) (set rows (item_at h i - 1) r) s
   put_next e r is_r =
       let p = put_place e in
       items_next k h i rows (set rows (item_at h i - 1) r) s s R.slots (λ z. omega arith) I
-      (rows_set h i 1 rows r e (λ z. omega arith) p.0 p.1 (ap (λ (n : ℕ). row_begun n (get_or rows (item_at h i - 1) blank)) (sym (add-one i)) ∙ sym is_r) I.rows_are)
+      (rows_set h i 1 rows r e (λ z. omega arith) p.0 p.1 (sym is_r) I.rows_are)
       I.oldest_le I.none_older (I.held_is ∙ sym (held_keep h i (λ z. omega arith) (λ z. omega arith)))
 
   pub take_next : kind_at h i ≡ 2 → ItemsAre k h (i + 1) rows s

@@ -16,18 +16,14 @@ pub(super) fn pass(
     ensures { Walked k history.now to rows.old rows.new result }
 {
     let mut older = 0;
-    for q in from.min(to)..to {
-        if let Kind::Accepted = history[q].kind {
-            let m = history[q].item as usize - 1;
-            let row = rows[m];
-            if !row.handed {
-                if row.passes + 1 >= k {
+    for event in &history[from.min(to)..to] {
+        if let Kind::Accepted = event.kind {
+            let m = event.item as usize - 1;
+            if !rows[m].handed {
+                if rows[m].passes + 1 >= k {
                     return None;
                 }
-                rows[m] = Row {
-                    passes: row.passes + 1,
-                    ..row
-                };
+                rows[m].passes += 1;
                 older += 1;
             }
         }
@@ -40,11 +36,10 @@ pub(super) fn first_held(history: &[Event], rows: &[Row], from: usize, i: usize)
     requires { Look history.now rows.now from i }
     ensures { First history.now i result }
 {
-    for q in from..i {
-        if let Kind::Accepted = history[q].kind {
-            let m = history[q].item as usize - 1;
-            if !rows[m].handed {
-                return q;
+    for (ahead, event) in history[from..i].iter().enumerate() {
+        if let Kind::Accepted = event.kind {
+            if !rows[event.item as usize - 1].handed {
+                return from + ahead;
             }
         }
     }
