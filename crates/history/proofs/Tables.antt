@@ -1,9 +1,10 @@
 -- The table of the threads' last events and the count of puts, one event on.
-use Rattle.std.proofs.Common.{◌≡◌, ℕ, ◌+◌, ◌<◌, true, List, length, get_or, set, sym, refl, ap, ◌∙◌, subst, ⊎_elim, add-one, arith}
+use Rattle.std.proofs.Common.{◌≡◌, ℕ, ◌+◌, ◌<◌, true, List, length, Some, None, Option, get_or, set, sym, refl, ap, ◌∙◌, subst, ⊎_elim, add-one, arith}
 use Rattle.std.proofs.lemmas.List.{get_or-set_same, get_or-set_other}
 use Rattle.std.proofs.lemmas.Bool.{cases_eq, eq-eqb, ne_eqb, cond-true, cond-false, and_parts, ltb-true}
 use Rattle.history.specs.Events.{event_at, thread_at, kind_at, kind_number, is}
 use Rattle.history.specs.Calls.{by, last_event, puts_before}
+use Rattle.history.specs.Tables.{mark}
 use Rattle.history.specs.WellFormed.{formed, suits}
 use Rattle.history.specs.declared.event.Event.{Event}
 use Rattle.history.specs.declared.event.Kind.{Kind}
@@ -16,14 +17,14 @@ last_event_own h i = last_more (by h (thread_at h i)) i ∙ cond-true (by h (thr
 pub last_event_other : (h : List Event) (i t : ℕ) → (t ≡ thread_at h i → ⊥) → last_event h t (i + 1) ≡ last_event h t i
 last_event_other h i t f = last_more (by h t) i ∙ cond-false (by h t i) _ _ (ne_eqb (thread_at h i) t (λ e. f (sym e)))
 
--- noting event i in a table of marks
-pub marks_next : (h : List Event) (i : ℕ) (marks : List ℕ) → length marks ≡ 64 → thread_at h i < 64
-    → ((t : ℕ) → t < 64 → get_or marks t 0 ≡ last_event h t i)
-    → (t : ℕ) → t < 64 → get_or (set marks (thread_at h i) (i + 1)) t 0 ≡ last_event h t (i + 1)
-marks_next h i marks len small are t lt = ⊎_elim
-    (λ (e : t ≡ thread_at h i). subst (λ (x : ℕ). get_or (set marks (thread_at h i) (i + 1)) x 0 ≡ last_event h x (i + 1)) (sym e)
-    (get_or-set_same marks (thread_at h i) (i + 1) 0 (omega arith) ∙ sym (last_event_own h i)))
-    (λ (e : t ≡ thread_at h i → ⊥). get_or-set_other marks (thread_at h i) t (i + 1) 0 e ∙ are t lt ∙ sym (last_event_other h i t e))
+-- noting the position of event i in a table of last positions
+pub lasts_next : (h : List Event) (i : ℕ) (at : List (Option ℕ)) → length at ≡ 64 → thread_at h i < 64
+    → ((t : ℕ) → t < 64 → mark (get_or at t None) ≡ last_event h t i)
+    → (t : ℕ) → t < 64 → mark (get_or (set at (thread_at h i) (Some i)) t None) ≡ last_event h t (i + 1)
+lasts_next h i at len small are t lt = ⊎_elim
+    (λ (e : t ≡ thread_at h i). subst (λ (x : ℕ). mark (get_or (set at (thread_at h i) (Some i)) x None) ≡ last_event h x (i + 1)) (sym e)
+    (ap mark (get_or-set_same at (thread_at h i) (Some i) None (omega arith)) ∙ sym (add-one i) ∙ sym (last_event_own h i)))
+    (λ (e : t ≡ thread_at h i → ⊥). ap mark (get_or-set_other at (thread_at h i) t (Some i) None e) ∙ are t lt ∙ sym (last_event_other h i t e))
     (cases_eq t (thread_at h i))
 
 pub formed_small : (h : List Event) (i : ℕ) → formed h i ≡ true → thread_at h i < 64

@@ -1,5 +1,5 @@
 -- The numbers of the refusals, and what they name.
-use Rattle.std.specs.Prelude.{ℕ, List}
+use Rattle.std.specs.Prelude.{ℕ, List, ◌++◌, codes, decimal}
 use Rattle.history.specs.WellFormed as history
 use Rattle.history.specs.declared.event.Event.{Event}
 use Rattle.history.specs.declared.refusal.Refusal.{Refusal}
@@ -12,6 +12,15 @@ refusal_number TooLong = 13
 refusal_number (Malformed e) = 14
 refusal_number TooFewRows = 15
 refusal_number Overlap = 16
+
+-- the number as text, with the event behind it where the refusal names one
+abbrev pub refusal_text : Refusal → List ℕ
+refusal_text SegmentSize = decimal 1
+refusal_text Segments = decimal 2
+refusal_text TooLong = decimal 13
+refusal_text (Malformed e) = decimal 14 ++ (codes ":" ++ decimal e)
+refusal_text TooFewRows = decimal 15
+refusal_text Overlap = decimal 16
 
 -- the event that a refusal names is the first that is not well formed
 abbrev pub Names : List Event → Refusal → Type 0

@@ -13,10 +13,7 @@ pub fn ask(history: &[Event], rows: usize) -> Result<usize, Refusal>
     if history.len() > MOST {
         return Err(Refusal::TooLong);
     }
-    let puts = match puts_begun(history) {
-        Ok(puts) => puts,
-        Err(event) => return Err(Refusal::Malformed(event)),
-    };
+    let puts = puts_begun(history).map_err(Refusal::Malformed)?;
     let used = rows.min(MOST);
     if puts > used {
         return Err(Refusal::TooFewRows);

@@ -2,7 +2,7 @@
 ghost use Rattle.std.specs.Prelude.{◌≡◌};
 ghost use Rattle.history.specs.Events.{kind_number};
 
-#[derive(Clone, Copy)]
+#[derive(Clone, Copy, Debug, PartialEq, Eq)]
 pub enum Kind {
     PutBegun,
     TakeBegun,
@@ -12,11 +12,11 @@ pub enum Kind {
     Empty,
 }
 
-impl Kind {
-    pub fn number(self) -> u32
-        ensures { result ≡ kind_number self }
-    {
-        match self {
+impl From<Kind> for u32 {
+    ghost from_gives = { λ kind n. n ≡ kind_number kind };
+
+    fn from(kind: Kind) -> u32 {
+        match kind {
             Kind::PutBegun => 1,
             Kind::TakeBegun => 2,
             Kind::Accepted => 3,
@@ -28,7 +28,7 @@ impl Kind {
 }
 
 // The item is the number of the put that the event speaks of, from 1; a take's begin and an empty answer carry 0.
-#[derive(Clone, Copy)]
+#[derive(Clone, Copy, Debug, PartialEq, Eq)]
 pub struct Event {
     pub kind: Kind,
     pub thread: u32,

@@ -1,22 +1,18 @@
 // Whether a history is well formed.
-ghost use Rattle.std.specs.Prelude.{◌≡◌, ℕ, ◌+◌, ◌-◌, ◌<◌, ◌≤◌, length, if◌then◌else◌, nat_eq};
-ghost use Rattle.history.specs.Events.{kind_at};
+ghost use Rattle.std.specs.Prelude.{◌≡◌, ◌<◌, ◌≤◌, length};
 ghost use Rattle.history.specs.WellFormed.{formed, Read};
-ghost use Rattle.history.specs.Tables.{Counted};
+ghost use Rattle.history.specs.Tables.{Counted, mark, call_begun};
 
 use super::event::{Event, Kind};
 use super::threads::LastEvents;
 
-// The number of the kind of the event with this mark, 0 where the mark is 0.
-fn kind_marked(history: &[Event], mark: usize) -> u32
-    requires { mark ≤ length history.now }
-    ensures { result ≡ (if nat_eq mark 0 then 0 else kind_at history.now (mark - 1)) }
+// The begin of a thread's call that is in flight, given where the thread's last event stands.
+fn call_in_flight(history: &[Event], last: Option<usize>) -> Option<Event>
+    requires { mark last ≤ length history.now }
+    ensures { result ≡ call_begun history.now (mark last) }
 {
-    if mark == 0 {
-        0
-    } else {
-        history[mark - 1].kind.number()
-    }
+    let event = history[last?];
+    matches!(event.kind, Kind::PutBegun | Kind::TakeBegun).then_some(event)
 }
 
 fn is_formed(history: &[Event], i: usize, threads: &LastEvents, begun: usize) -> bool
@@ -28,14 +24,15 @@ fn is_formed(history: &[Event], i: usize, threads: &LastEvents, begun: usize) ->
     if e.thread >= 64 {
         return false;
     }
-    let mark = threads.of(e.thread);
-    let call = kind_marked(history, mark);
-    match e.kind {
-        Kind::PutBegun => call != 1 && call != 2 && e.item as usize == begun + 1,
-        Kind::TakeBegun => call != 1 && call != 2 && e.item == 0,
-        Kind::Accepted | Kind::Full => call == 1 && mark > 0 && e.item == history[mark - 1].item,
-        Kind::HandedOut => call == 2 && e.item > 0,
-        Kind::Empty => call == 2 && e.item == 0,
+    match (e.kind, call_in_flight(history, threads.of(e.thread))) {
+        (Kind::PutBegun, None) => e.item as usize == begun + 1,
+        (Kind::TakeBegun, None) => e.item == 0,
+        (Kind::Accepted | Kind::Full, Some(call)) => {
+            call.kind == Kind::PutBegun && e.item == call.item
+        }
+        (Kind::HandedOut, Some(call)) => call.kind == Kind::TakeBegun && e.item > 0,
+        (Kind::Empty, Some(call)) => call.kind == Kind::TakeBegun && e.item == 0,
+        _ => false,
     }
 }
 
@@ -45,12 +42,12 @@ pub fn puts_begun(history: &[Event]) -> Result<usize, usize>
 {
     let mut threads = LastEvents::new();
     let mut begun = 0;
-    for i in 0..history.len() {
+    for (i, event) in history.iter().enumerate() {
         if !is_formed(history, i, &threads, begun) {
             return Err(i);
         }
-        threads.note(history[i].thread, i + 1);
-        if let Kind::PutBegun = history[i].kind {
+        threads.note(event.thread, i);
+        if event.kind == Kind::PutBegun {
             begun += 1;
         }
     }

@@ -1,36 +1,35 @@
 // Where each thread's last event stands.
-ghost use Rattle.std.specs.Prelude.{◌≡◌, length, replicate, slice_index, slice_set};
+ghost use Rattle.std.specs.Prelude.{◌≡◌, length, replicate, Some, None, slice_index_or, slice_set};
 
-// For each of 64 threads one more than the position of its last event so far, 0 where it has none.
+// For each of 64 threads the position of its last event so far.
 #[derive(Clone, Copy)]
 pub struct LastEvents {
-    marks: [usize; 64],
-    ghost whole: { length marks ≡ 64 },
+    positions: [Option<usize>; 64],
+    ghost whole: { length positions ≡ 64 },
 }
 
 impl LastEvents {
     pub fn new() -> LastEvents
-        ensures { result.marks ≡ replicate 64 0 }
+        ensures { result.positions ≡ replicate 64 None }
     {
-        LastEvents { marks: [0; 64] }
-    }
-
-    // The mark of a thread; 0 of a thread that the table does not have.
-    pub fn of(&self, thread: u32) -> usize
-        ensures { result ≡ slice_index self.now.marks thread }
-    {
-        if thread >= 64 {
-            return 0;
+        LastEvents {
+            positions: [None; 64],
         }
-        self.marks[thread as usize]
     }
 
-    // Notes a thread's last event by its mark; a thread that the table does not have leaves it as it was.
-    pub fn note(&mut self, thread: u32, mark: usize)
-        ensures { self.new.marks ≡ slice_set self.old.marks thread mark }
+    // The position of a thread's last event; nothing of a thread that the table does not have.
+    pub fn of(&self, thread: u32) -> Option<usize>
+        ensures { result ≡ slice_index_or self.now.positions thread None }
+    {
+        *self.positions.get(thread as usize)?
+    }
+
+    // Notes the position of a thread's last event; a thread that the table does not have leaves it as it was.
+    pub fn note(&mut self, thread: u32, at: usize)
+        ensures { self.new.positions ≡ slice_set self.old.positions thread (Some at) }
     {
         if thread < 64 {
-            self.marks[thread as usize] = mark;
+            self.positions[thread as usize] = Some(at);
         }
     }
 }
