@@ -8,10 +8,11 @@ use Rattle.history.specs.declared.event.Event.{Event}
 use Rattle.history.proofs.Positions.{false_from, some_at, some_none, last_is, some_mono, some_one, bool_mid}
 use Rattle.history.proofs.Facts.{tells_parts, tells_from, begins_once, put_of, answered_few}
 use Rattle.judge.specs.Rows.{blank, row_of}
-use Rattle.judge.specs.State.{holds, ItemsAre, Ready, Fresh}
+use Rattle.judge.specs.State.{holds, ItemsAre}
 use Rattle.judge.specs.Walk.{free}
 use Rattle.judge.specs.declared.row.Row.{Row}
 use Rattle.judge.specs.declared.seen.Seen.{Seen}
+use Rattle.judge.proofs.Ready.{Ready, Fresh}
 use Rattle.judge.proofs.Rows.{position_some}
 use Rattle.judge.proofs.Known.{row_at, free_holds, own_row}
 use Rattle.judge.proofs.Counting.{later}

@@ -8,9 +8,10 @@ use Rattle.history.specs.Faults.{Fault1, Clean, Lowest}
 use Rattle.history.specs.declared.event.Event.{Event}
 use Rattle.history.proofs.Faults.{lowest1, lowest5, clean4}
 use Rattle.judge.specs.Rows.{blank}
-use Rattle.judge.specs.State.{ItemsAre, Ready}
+use Rattle.judge.specs.State.{ItemsAre}
 use Rattle.judge.specs.declared.row.Row.{Row}
 use Rattle.judge.specs.declared.seen.Seen.{Seen}
+use Rattle.judge.proofs.Ready.{Ready}
 use Rattle.judge.proofs.Together.{apart_from, apart_to}
 use Rattle.judge.proofs.Rows.{row_refused, rows_set}
 use Rattle.judge.proofs.Held.{held_keep}

@@ -12,18 +12,19 @@ use Rattle.history.proofs.Facts.{tells_parts, tells_from, tells_kind}
 use Rattle.history.proofs.Items.{handed_out_more}
 use Rattle.history.proofs.Faults.{lowest2, lowest3, clean5}
 use Rattle.judge.specs.Rows.{blank, row_of, RowsAre}
-use Rattle.judge.specs.State.{holds, ItemsAre, Fresh}
+use Rattle.judge.specs.State.{holds, ItemsAre}
 use Rattle.judge.specs.Walk.{free, bumped, passed, Walk, Walked}
 use Rattle.judge.specs.declared.row.Row.{Row}
 use Rattle.judge.specs.declared.seen.Seen.{Seen}
+use Rattle.judge.proofs.Ready.{Fresh}
 use Rattle.judge.proofs.Rows.{row_handed, row_step, row_next}
 use Rattle.judge.proofs.Held.{hold_falls, held_loss, held_none}
 use Rattle.judge.proofs.Known.{out_item}
 use Rattle.judge.proofs.Counting.{later, older_count}
 use Rattle.judge.proofs.Walks.{passed_new}
-use Rattle.judge.proofs.Fresh.{own_row_is, put_at, put_is, no_fault1, later_is, own_not_older, passes_is, passes_own, free_is, free_held}
+use Rattle.judge.proofs.Fresh.{own_row_is, put_is, no_fault1, later_is, own_not_older, passes_is, passes_own, free_is, free_held}
 
-module _ {k : ℕ} {h : List Event} {i : ℕ} {rows : List Row} {s : Seen} (K : Fresh k h i rows s) where
+module _ {k : ℕ} {h : List Event} {i put_at : ℕ} {rows : List Row} {s : Seen} (K : Fresh k h i put_at rows s) where
   pub walk : (o : ℕ) → o ≤ i → ((q : ℕ) → q < o → holds h i q ≡ false) → Walk k h rows o put_at
   walk o le none = record {
     short = K.ready.short;
@@ -46,8 +47,9 @@ module _ {k : ℕ} {h : List Event} {i : ℕ} {rows : List Row} {s : Seen} (K : 
       let r = ap (λ (r : Row). r.passes) f.1.1 in
       (K.five, (a, (f.1.0, (ne, omega (arith, c, r, w.1.1.1)))))
 
-  pub shows2 : (n : ℕ) (rows' : List Row) → Walked k h put_at rows rows' None → Lowest k n h 2 i
-  shows2 n rows' w = lowest2 k n h i (no_fault1 K) (fault2 rows' w)
+  -- the walk is given k as a number
+  pub shows2 : (n k' : ℕ) (rows' : List Row) → k' ≡ k → Walked k' h put_at rows rows' None → Lowest k n h 2 i
+  shows2 n k' rows' is_k w = lowest2 k n h i (no_fault1 K) (fault2 rows' (subst (λ (m : ℕ). Walked m h put_at rows rows' None) is_k w))
 
   pub held_fewer : (get_or rows (item_at h i - 1) blank).accepted ≡ true → s.held ≡ count_below (holds h (i + 1)) (i + 1) + 1
   held_fewer e =
@@ -57,7 +59,10 @@ module _ {k : ℕ} {h : List Event} {i : ℕ} {rows : List Row} {s : Seen} (K : 
   pub held_as_before : (get_or rows (item_at h i - 1) blank).accepted ≡ false → s.held ≡ count_below (holds h (i + 1)) (i + 1)
   held_as_before e = K.items.held_is ∙ sym (held_none h K.ready.formed i K.ready.within K.five (ap (λ (r : Row). r.accepted) (sym (own_row_is K)) ∙ e))
 
-  module _ (rows' : List Row) (older : ℕ) (w : Walked k h put_at rows rows' (Some older)) where
+  module _ (k' : ℕ) (rows' : List Row) (older : ℕ) (is_k : k' ≡ k) (given : Walked k' h put_at rows rows' (Some older)) where
+    w : Walked k h put_at rows rows' (Some older)
+    w = subst (λ (m : ℕ). Walked m h put_at rows rows' (Some older)) is_k given
+
     no_fault2 : Fault2 k h i → ⊥
     no_fault2 f =
         let a = f.1.0 in let hl = f.1.1.0 in let ne = f.1.1.1.0 in let le = f.1.1.1.1 in

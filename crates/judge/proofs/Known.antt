@@ -10,10 +10,11 @@ use Rattle.history.specs.declared.event.Event.{Event}
 use Rattle.history.proofs.Positions.{false_from, some_none, last_none}
 use Rattle.history.proofs.Facts.{shape, tells_parts, begun_few, answered_few}
 use Rattle.judge.specs.Rows.{blank, row_of, RowsAre}
-use Rattle.judge.specs.State.{holds, ItemsAre, Ready}
+use Rattle.judge.specs.State.{holds, ItemsAre}
 use Rattle.judge.specs.Walk.{free}
 use Rattle.judge.specs.declared.row.Row.{Row}
 use Rattle.judge.specs.declared.seen.Seen.{Seen}
+use Rattle.judge.proofs.Ready.{Ready}
 use Rattle.judge.proofs.Rows.{position_none}
 use Rattle.judge.proofs.Held.{holds_is}
 
@@ -32,15 +33,12 @@ free_holds h i rows F le fit are q lt = ⊎_elim
 pub out_item : (h : List Event) (i : ℕ) → Formed h → i < length h → kind_at h i ≡ 5 → 0 < item_at h i
 out_item h i F lt e = ltb-true 0 (item_at h i) (and_parts _ (ltb 0 (item_at h i)) (shape h i 5 (F i lt) e)).1
 
-pub place : (k : ℕ) (h : List Event) (i n : ℕ) → Ready k h i n → kind_at h i ≡ 5 → item_at h i ≤ n → item_at h i - 1 < n
-place k h i n R e le = let p = out_item h i R.formed R.within e in omega arith
-
 -- an item past the rows has not begun
-pub past_rows : (h : List Event) (i n : ℕ) → Formed h → i < length h → kind_at h i ≡ 5 → puts_before h (length h) ≤ n → n < item_at h i → Fault1 h i
-past_rows h i n F lt e fit past = inl (
+pub past_rows : (k : ℕ) (h : List Event) (i n : ℕ) → Ready k h i n → kind_at h i ≡ 5 → n ≤ item_at h i - 1 → Fault1 h i
+past_rows k h i n R e past = inl (
   e,
   inl (some_none (tells 1 h (item_at h i)) i (λ j l. false_from (tells 1 h (item_at h i) j) (λ t.
-      let p = tells_parts 1 h (item_at h i) j t in let b = begun_few h F j (omega arith) p.0 in omega (arith, b.1, p.1)))),
+      let p = tells_parts 1 h (item_at h i) j t in let b = begun_few h R.formed j (omega (arith, R.within)) p.0 in omega (arith, b.0, b.1, p.1, R.fit)))),
 )
 
 -- an event 5 whose item has a row

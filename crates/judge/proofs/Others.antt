@@ -7,9 +7,10 @@ use Rattle.history.specs.declared.event.Event.{Event}
 use Rattle.history.proofs.Facts.{begun_few, answered_few}
 use Rattle.history.proofs.Items.{passed_few_more}
 use Rattle.judge.specs.Rows.{blank, RowsAre}
-use Rattle.judge.specs.State.{holds, ItemsAre, Ready}
+use Rattle.judge.specs.State.{holds, ItemsAre}
 use Rattle.judge.specs.declared.row.Row.{Row}
 use Rattle.judge.specs.declared.seen.Seen.{Seen}
+use Rattle.judge.proofs.Ready.{Ready}
 use Rattle.judge.proofs.Rows.{row_begun, row_accepted, rows_set, rows_keep}
 use Rattle.judge.proofs.Held.{hold_falls, held_keep, held_gain, held_unchanged}
 use Rattle.judge.proofs.Known.{row_at}

@@ -40,15 +40,6 @@ Walked k h to rows rows' (Some c) =
     × (((m : ℕ) → m < length rows → slice_index_or rows' m blank ≡ passed h to (slice_index_or rows m blank) (suc m))
     × ((q : ℕ) → q < to → free h rows q ≡ true → (slice_index_or rows (item_at h q - 1) blank).passes + 1 < k))
 
--- a walk that looks for a held item: from event `from`, before which there is none, to before event i
-pub record Look (h : List Event) (rows : List Row) (from i : ℕ) : Type 0 where
-  pub within : i ≤ length h
-  pub formed : Formed h
-  pub fit : puts_before h (length h) ≤ length rows
-  pub rows_are : RowsAre h i rows
-  pub from_le : from ≤ i
-  pub none_older : (q : ℕ) → q < from → holds h i q ≡ false
-
 -- r is the first acceptance of a held item, or i where there is none
 pub record First (h : List Event) (i r : ℕ) : Type 0 where
   pub le : r ≤ i

@@ -2,13 +2,13 @@
 ghost use Rattle.std.specs.Prelude.{◌≡◌};
 ghost use Rattle.history.specs.Events.{kind_at, thread_at};
 ghost use Rattle.history.specs.Calls.{last_event};
-ghost use Rattle.judge.specs.Rows.{position};
+ghost use Rattle.history.specs.Tables.{mark};
 ghost use Rattle.judge.specs.Flights.{together};
 ghost use Rattle.judge.specs.State.{Knows, Stepped};
 
 use super::fault::Fault;
 use super::judging::Judging;
-use super::walk::{first_held, pass};
+use super::walk::pass;
 
 impl Judging<'_> {
     // An item is handed out. One behind the last row was never put.
@@ -28,7 +28,7 @@ impl Judging<'_> {
         if row.refused || row.handed {
             return Some(Fault::NotThere);
         }
-        self.seen.oldest = first_held(self.history, self.rows, self.seen.oldest, i);
+        self.seen.oldest = self.first_held(i);
         let k = self.shape.k.get();
         let Some(older) = pass(self.history, self.rows, self.seen.oldest, began, k) else {
             return Some(Fault::PassedTooOften);
@@ -67,10 +67,10 @@ impl Judging<'_> {
     pub(super) fn answer_empty(&mut self, i: usize, last: Option<usize>) -> Option<Fault>
         requires six { kind_at self.old.history.now i ≡ 6 }
         requires knows { Knows self.old i }
-        requires last { last ≡ position (last_event self.old.history.now (thread_at self.old.history.now i) i) }
+        requires last { mark last ≡ last_event self.old.history.now (thread_at self.old.history.now i) i }
         ensures { Stepped self.old self.new i result }
     {
-        self.seen.oldest = first_held(self.history, self.rows, self.seen.oldest, i);
+        self.seen.oldest = self.first_held(i);
         match last {
             Some(begun) if self.seen.oldest < begun => Some(Fault::NotEmpty),
             _ => None,

@@ -1,9 +1,8 @@
 // The calls in flight.
-ghost use Rattle.std.specs.Prelude.{◌≡◌, ◌+◌, ◌<◌, List, length, slice_index};
+ghost use Rattle.std.specs.Prelude.{◌≡◌, ◌+◌, ◌<◌, List, length};
 ghost use Rattle.history.specs.declared.event.Event.{Event};
 ghost use Rattle.history.specs.WellFormed.{Formed};
 ghost use Rattle.judge.specs.Flights.{flying};
-ghost use Rattle.judge.specs.Rows.{position};
 ghost use Rattle.judge.specs.State.{FlightsAre};
 
 use history::event::{Event, Kind};
@@ -29,13 +28,6 @@ impl Flights {
         }
     }
 
-    // The position of a thread's last event.
-    pub(super) fn last(&self, thread: u32) -> Option<usize>
-        ensures { result ≡ position (slice_index self.now.last_events.marks thread) }
-    {
-        self.last_events.of(thread).checked_sub(1)
-    }
-
     // How many are in flight after event i.
     fn count_after(&self, history: &[Event], i: usize) -> usize
         requires within { i < length history.now }
@@ -56,7 +48,7 @@ impl Flights {
         requires flights { FlightsAre history.now i self.old }
         ensures { FlightsAre history.now (i + 1) self.new }
     {
-        self.last_events.note(history[i].thread, i + 1);
+        self.last_events.note(history[i].thread, i);
         self.count = self.count_after(history, i);
         self.crossed = self.crossed || self.count > 1;
     }

@@ -22,15 +22,16 @@ impl Judging<'_> {
             Kind::TakeBegun => None,
             Kind::Accepted => {
                 let m = event.item as usize - 1;
-                if !self.rows[m].handed {
+                let handed = self.rows[m].handed;
+                self.rows[m].accepted = true;
+                if !handed {
                     self.seen.held += 1;
                 }
-                self.rows[m].accepted = true;
                 None
             }
             Kind::Full => self.answer_full(i, flights.crossed),
             Kind::HandedOut => self.hand_out(i),
-            Kind::Empty => self.answer_empty(i, flights.last(event.thread)),
+            Kind::Empty => self.answer_empty(i, flights.last_events.of(event.thread)),
         }
     }
 }

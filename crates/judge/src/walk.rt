@@ -1,6 +1,8 @@
 // Walks over the acceptances of a history, from the oldest that may be of a held item.
-ghost use Rattle.judge.specs.Walk.{Walk, Walked, Look, First};
+ghost use Rattle.judge.specs.State.{Knows};
+ghost use Rattle.judge.specs.Walk.{Walk, Walked, First};
 
+use super::judging::Judging;
 use super::row::Row;
 use history::event::{Event, Kind};
 
@@ -15,9 +17,10 @@ pub(super) fn pass(
     requires { Walk k history.now rows.old from to }
     ensures { Walked k history.now to rows.old rows.new result }
 {
+    let start = from.min(to);
     let mut older = 0;
-    for event in &history[from.min(to)..to] {
-        if let Kind::Accepted = event.kind {
+    for event in &history[start..to] {
+        if event.kind == Kind::Accepted {
             let m = event.item as usize - 1;
             if !rows[m].handed {
                 if rows[m].passes + 1 >= k {
@@ -31,17 +34,18 @@ pub(super) fn pass(
     Some(older)
 }
 
-// The first acceptance from event `from` on, before event i, of an item that is held; i where there is none.
-pub(super) fn first_held(history: &[Event], rows: &[Row], from: usize, i: usize) -> usize
-    requires { Look history.now rows.now from i }
-    ensures { First history.now i result }
-{
-    for (ahead, event) in history[from..i].iter().enumerate() {
-        if let Kind::Accepted = event.kind {
-            if !rows[event.item as usize - 1].handed {
-                return from + ahead;
+impl Judging<'_> {
+    // The first acceptance before event i of an item that is held; i where there is none.
+    pub(super) fn first_held(&self, i: usize) -> usize
+        requires { Knows self.now i }
+        ensures { First self.now.history.now i result }
+    {
+        let oldest = self.seen.oldest;
+        for (ahead, event) in self.history[oldest..i].iter().enumerate() {
+            if event.kind == Kind::Accepted && !self.rows[event.item as usize - 1].handed {
+                return oldest + ahead;
             }
         }
+        i
     }
-    i
 }
