@@ -1,13 +1,13 @@
 -- A take is answered empty.
-use Rattle.std.proofs.Common.{◌≡◌, ℕ, ◌+◌, ◌-◌, ◌<◌, ◌≤◌, eqb, ◌≢◌, List, length, sym, refl, ap, ◌∙◌, arith}
+use Rattle.std.proofs.Common.{◌≡◌, ℕ, ◌+◌, ◌-◌, ◌<◌, ◌≤◌, List, length, sym, refl, ap, ◌∙◌, arith}
 use Rattle.std.proofs.lemmas.Bool.{both_ways, eq-eqb, eqb-true, and_parts, and_from}
 use Rattle.history.specs.Events.{kind_at, thread_at, item_at, is, tells}
-use Rattle.history.specs.Calls.{by, last_event, last_kind}
+use Rattle.history.specs.Calls.{by, last_event}
 use Rattle.history.specs.Items.{held}
 use Rattle.history.specs.Faults.{Clean, Lowest}
 use Rattle.history.specs.declared.event.Event.{Event}
 use Rattle.history.proofs.Positions.{last_le, some_at, some_find}
-use Rattle.history.proofs.Facts.{shape, tells_parts, tells_from, Begin, called}
+use Rattle.history.proofs.Facts.{tells_parts, tells_from}
 use Rattle.history.proofs.Faults.{lowest4, clean6}
 use Rattle.judge.specs.State.{holds, ItemsAre}
 use Rattle.judge.specs.Walk.{First}

@@ -1,5 +1,5 @@
 -- An item is handed out that was begun, not refused and not handed out before.
-use Rattle.std.proofs.Common.{◌≡◌, ℕ, suc, ◌-◌, ◌<◌, Bool, true, false, not, ◌&&◌, eqb, ltb, ◌≢◌, List, length, get_or, sym, refl, ap, ◌∙◌, inl, ⊎_elim, arith}
+use Rattle.std.proofs.Common.{◌≡◌, ℕ, ◌-◌, ◌<◌, Bool, true, false, not, ◌&&◌, eqb, ltb, ◌≢◌, List, length, get_or, sym, refl, ap, ◌∙◌, inl, ⊎_elim, arith}
 use Rattle.std.proofs.lemmas.Bool.{both_ways, ne_eqb, eq-eqb, eqb-true, and_parts, and_left, and_right, not_from_true}
 use Rattle.history.specs.Events.{kind_at, item_at, is, tells}
 use Rattle.history.specs.Items.{begun, accepted, refused_as_full, handed_out, held, younger, passes}

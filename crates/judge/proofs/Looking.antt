@@ -1,8 +1,7 @@
 -- The walk that looks for a held item.
-use Rattle.std.proofs.Common.{◌≡◌, ℕ, ◌+◌, ◌-◌, ◌<◌, ◌≤◌, true, false, not, ◌&&◌, List, length, get_or, take, drop, sym, refl, ap, ◌∙◌, inl, arith}
+use Rattle.std.proofs.Common.{◌≡◌, ℕ, ◌+◌, ◌-◌, ◌<◌, true, false, length, get_or, take, drop, sym, refl, ap, ◌∙◌, inl, arith}
 use Rattle.std.proofs.lemmas.Bool.{ne_eqb, eq-eqb, and_from, and_left, and_right, not_from_true, not_from_false}
-use Rattle.history.specs.Events.{nothing, kind_number, event_at, kind_at, item_at, is}
-use Rattle.history.specs.Items.{held}
+use Rattle.history.specs.Events.{nothing, kind_number, event_at, kind_at, is}
 use Rattle.history.specs.declared.event.Event.{Event}
 use Rattle.history.specs.declared.event.Kind.TheVariants.{Accepted}
 use Rattle.history.proofs.Facts.{kind_if, answered_few}

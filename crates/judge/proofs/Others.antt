@@ -1,5 +1,5 @@
 -- An event other than a hand-out changes at most the row of its own item.
-use Rattle.std.proofs.Common.{◌≡◌, ℕ, ◌+◌, ◌-◌, ◌<◌, ◌≤◌, true, false, ◌⊎◌, List, length, get_or, set, sym, refl, ap, ◌∙◌, inl, ⊎_elim, add-one, arith}
+use Rattle.std.proofs.Common.{◌≡◌, ℕ, ◌+◌, ◌-◌, ◌<◌, ◌≤◌, true, false, ◌⊎◌, List, length, get_or, set, sym, refl, ap, ◌∙◌, inl, ⊎_elim, arith}
 use Rattle.history.specs.Positions.{count_below}
 use Rattle.history.specs.Events.{kind_at, item_at}
 use Rattle.history.specs.Items.{handed_out}

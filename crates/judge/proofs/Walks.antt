@@ -1,6 +1,6 @@
 -- The walk that passes items.
 use Rattle.std.proofs.Common.{◌≡◌, ℕ, suc, ◌+◌, ◌-◌, ◌<◌, ◌≤◌, Bool, true, false, cond, not, ◌&&◌, ◌||◌, ◌≢◌, List, length, get_or, take, drop, set, sym, refl, ap, ◌∙◌, subst, inl, ⊎_elim, add-one, arith}
-use Rattle.std.proofs.lemmas.List.{get_or-set_same, get_or-set_other, get_or-take, get_or-drop}
+use Rattle.std.proofs.lemmas.List.{get_or-set_same, get_or-set_other, set-get_or, get_or-take, get_or-drop}
 use Rattle.std.proofs.lemmas.Bool.{both_ways, cond-false, cond-true, ne_eqb, eq-eqb, and_from, and_left, and_right, or_left, not-false, not_from_true, not_from_false, cases_Bool, cases_eq}
 use Rattle.history.specs.Positions.{count_below}
 use Rattle.history.specs.Events.{nothing, event_at, kind_number, kind_at, item_at, is, tells}
@@ -127,7 +127,7 @@ pub record Turn (k : ℕ) (h : List Event) (rows₀ : List Row) (q older : ℕ) 
       → (free h rows₀ q ≡ true) × (k ≤ (get_or rows₀ (item_at h q - 1) blank).passes + 1)
   pub pass : length rows ≡ length rows₀ → (get_or rows (item - 1) blank).handed ≡ false → (get_or rows (item - 1) blank).passes + 1 < k
       → Going k h rows₀ (q + 1) (older + 1) (set rows (item - 1) (bumped (get_or rows (item - 1) blank)))
-  pub leave : (get_or rows (item - 1) blank).handed ≡ true → Going k h rows₀ (q + 1) older rows
+  pub leave : (get_or rows (item - 1) blank).handed ≡ true → Going k h rows₀ (q + 1) older (set rows (item - 1) (get_or rows (item - 1) blank))
 
 turn_at : (k : ℕ) (h : List Event) (rows₀ : List Row) (from to q older : ℕ) (rows : List Row) → Walk k h rows₀ from to → q < to → kind_at h q ≡ 3 → Going k h rows₀ q older rows → Turn k h rows₀ q older rows (item_at h q)
 turn_at k h rows₀ from to q older rows W lt e g =
@@ -142,7 +142,7 @@ turn_at k h rows₀ from to q older rows W lt e g =
       few = λ o. subst (λ (r : Row). r.passes < k) (sym s) (W.few q lt (f o));
       full = λ o m. (f o, subst (λ (r : Row). k ≤ r.passes + 1) s m);
       pass = go_pass k h rows₀ W.formed q older rows in_h e a.0 in_rows g;
-      leave = go_handed k h rows₀ W.formed q older rows in_h e a.0 in_rows g;
+      leave = λ o. subst (λ (xs : List Row). Going k h rows₀ (q + 1) older xs) (sym (set-get_or rows (item_at h q - 1) blank)) (go_handed k h rows₀ W.formed q older rows in_h e a.0 in_rows g o);
     }
 
 -- the walk reads the events of a part of the history

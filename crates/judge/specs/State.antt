@@ -1,5 +1,5 @@
 -- What the judge knows before event i.
-use Rattle.std.specs.Prelude.{◌≡◌, ℕ, ◌+◌, ◌-◌, ◌<◌, ◌≤◌, Bool, true, false, ◌&&◌, List, length, Some, None, Option, slice_index_or}
+use Rattle.std.specs.Prelude.{◌≡◌, ℕ, ◌+◌, ◌<◌, ◌≤◌, Bool, true, false, ◌&&◌, List, length, Some, None, Option}
 use Rattle.history.specs.Positions.{count_below}
 use Rattle.history.specs.Events.{item_at, is}
 use Rattle.history.specs.Tables.{LastsAre}

@@ -7,7 +7,7 @@ use Rattle.history.specs.WellFormed.{Formed}
 use Rattle.history.specs.Items.{accepted}
 use Rattle.history.specs.Limits.{Short}
 use Rattle.history.specs.declared.event.Event.{Event}
-use Rattle.judge.specs.Rows.{blank, RowsAre}
+use Rattle.judge.specs.Rows.{blank}
 use Rattle.judge.specs.State.{holds}
 use Rattle.judge.specs.declared.row.Row.{Row}
 

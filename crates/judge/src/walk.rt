@@ -21,12 +21,12 @@ pub(super) fn pass(
     let mut older = 0;
     for event in &history[start..to] {
         if event.kind == Kind::Accepted {
-            let m = event.item as usize - 1;
-            if !rows[m].handed {
-                if rows[m].passes + 1 >= k {
+            let row = &mut rows[event.item as usize - 1];
+            if !row.handed {
+                if row.passes + 1 >= k {
                     return None;
                 }
-                rows[m].passes += 1;
+                row.passes += 1;
                 older += 1;
             }
         }

@@ -5,7 +5,6 @@ use Rattle.std.proofs.lemmas.Result.{err_from_is_err_and}
 use Rattle.history.specs.declared.refusal.Refusal.{Refusal}
 use Rattle.history.specs.Limits.{most, rows_used, cleared}
 use Rattle.history.proofs.Filled.{filled_all, cleared_front}
-use Rattle.bounded.specs.declared.Bounded.{Bounded}
 use Rattle.judge.specs.Rows.{blank}
 use Rattle.judge.specs.Answers.{Answered, RowsLeft}
 use Rattle.judge.specs.Verdicts.{Judged}

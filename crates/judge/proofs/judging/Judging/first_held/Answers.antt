@@ -1,4 +1,4 @@
-use Rattle.std.proofs.Common.{rules, ◌+◌, arith, below_more}
+use Rattle.std.proofs.Common.{rules, arith, below_more}
 use Rattle.judge.proofs.Looking.{look_place, look_held, look_handed, look_other}
 use Rattle.judge.proofs.judging.Judging.first_held.Goals as goal
 use Rattle.judge.proofs.judging.Judging.first_held.Goals.{else-eq-via-then-eq+else-not-self-event, else-eq-via-else-eq}
