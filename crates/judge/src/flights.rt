@@ -1,8 +1,7 @@
 // The calls in flight.
-ghost use Rattle.std.specs.Prelude.{◌≡◌, ◌+◌, ◌<◌, List, length};
+ghost use Rattle.std.specs.Prelude.{◌+◌, ◌<◌, List, length};
 ghost use Rattle.history.specs.declared.event.Event.{Event};
 ghost use Rattle.history.specs.WellFormed.{Formed};
-ghost use Rattle.judge.specs.Flights.{flying};
 ghost use Rattle.judge.specs.State.{FlightsAre};
 
 use history::event::{Event, Kind};
@@ -28,19 +27,6 @@ impl Flights {
         }
     }
 
-    // How many are in flight after event i.
-    fn count_after(&self, history: &[Event], i: usize) -> usize
-        requires within { i < length history.now }
-        requires formed { Formed history.now }
-        requires count { self.now.count ≡ flying history.now i }
-        ensures { result ≡ flying history.now (i + 1) }
-    {
-        match history[i].kind {
-            Kind::PutBegun | Kind::TakeBegun => self.count + 1,
-            Kind::Accepted | Kind::Full | Kind::HandedOut | Kind::Empty => self.count - 1,
-        }
-    }
-
     // Notes the call that event i begins or answers.
     pub(super) fn note(&mut self, history: &[Event], i: usize)
         requires within { i < length history.now }
@@ -48,8 +34,12 @@ impl Flights {
         requires flights { FlightsAre history.now i self.old }
         ensures { FlightsAre history.now (i + 1) self.new }
     {
-        self.last_events.note(history[i].thread, i);
-        self.count = self.count_after(history, i);
+        let event = history[i];
+        self.last_events.note(event.thread, i);
+        match event.kind {
+            Kind::PutBegun | Kind::TakeBegun => self.count += 1,
+            Kind::Accepted | Kind::Full | Kind::HandedOut | Kind::Empty => self.count -= 1,
+        }
         self.crossed = self.crossed || self.count > 1;
     }
 }
