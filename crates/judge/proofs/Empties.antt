@@ -1,5 +1,5 @@
 -- A take is answered empty.
-use Rattle.std.proofs.Common.{◌≡◌, ℕ, ◌+◌, ◌-◌, ◌<◌, ◌≤◌, List, length, sym, refl, ap, ◌∙◌, arith}
+use Rattle.std.proofs.Common.{◌≡◌, ℕ, ◌+◌, ◌-◌, ◌<◌, ◌≤◌, List, sym, refl, ap, ◌∙◌, arith}
 use Rattle.std.proofs.lemmas.Bool.{both_ways, eq-eqb, eqb-true, and_parts, and_from}
 use Rattle.history.specs.Events.{kind_at, thread_at, item_at, is, tells}
 use Rattle.history.specs.Calls.{by, last_event}
@@ -18,7 +18,7 @@ use Rattle.judge.proofs.Rows.{rows_keep}
 use Rattle.judge.proofs.Held.{held_keep}
 use Rattle.judge.proofs.Others.{items_next}
 
-module _ (k : ℕ) (h : List Event) (i : ℕ) (rows : List Row) (s : Seen) (R : Ready k h i (length rows)) (I : ItemsAre k h i rows s) (n : ℕ) (six : kind_at h i ≡ 6) (r : ℕ) (first : First h i r) where
+module _ {k : ℕ} {h : List Event} {i : ℕ} {rows : List Row} {s : Seen} (R : Ready k h i rows s) (n : ℕ) (six : kind_at h i ≡ 6) (r : ℕ) (first : First h i r) where
   pub empty_4 : r < last_event h (thread_at h i) i - 1 → Lowest k n h 4 i
   empty_4 lt =
       let w = first.holds_there (omega (arith, last_le (by h (thread_at h i)) i)) in
@@ -32,5 +32,5 @@ module _ (k : ℕ) (h : List Event) (i : ℕ) (rows : List Row) (s : Seen) (R : 
       (and_from (is 3 h s.0) (held h i (item_at h s.0)) (eq-eqb (kind_at h s.0) 3 p.0) (ap (held h i) p.1 ∙ f.1.1.0)))
 
   pub empty_next : (s' : Seen) → s'.oldest ≡ r → s'.held ≡ s.held → ItemsAre k h (i + 1) rows s'
-  empty_next s' o e = items_next k h i rows rows s s' R.slots (λ z. omega arith) I (rows_keep h i 6 rows six (λ z. omega arith) (λ r. refl) I.rows_are)
-      (omega (arith, o, first.le)) (λ q lt. first.none_older q (omega (arith, o))) (e ∙ I.held_is ∙ sym (held_keep h i (λ z. omega arith) (λ z. omega arith)))
+  empty_next s' o e = items_next k h i rows rows s s' R.slots (λ z. omega arith) R.items (rows_keep h i 6 rows six (λ z. omega arith) (λ r. refl) R.items.rows_are)
+      (omega (arith, o, first.le)) (λ q lt. first.none_older q (omega (arith, o))) (e ∙ R.items.held_is ∙ sym (held_keep h i (λ z. omega arith) (λ z. omega arith)))

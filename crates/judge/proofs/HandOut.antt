@@ -32,7 +32,7 @@ module _ {k : ℕ} {h : List Event} {i put_at : ℕ} {rows : List Row} {s : Seen
     formed = K.ready.formed;
     fit = K.ready.fit;
     none_older = λ q lt. free_is K q (omega arith) ∙ none q lt;
-    few = λ q lt e. let f = free_held K q (omega (arith, (put_is K).0)) e in subst (λ (r : Row). r.passes < k) (sym f.1.1) (K.items.few (item_at h q) f.1.0);
+    few = λ q lt e. let f = free_held K q (omega (arith, (put_is K).0)) e in subst (λ (r : Row). r.passes < k) (sym f.1.1) (K.ready.items.few (item_at h q) f.1.0);
   }
 
   fault2 : (rows' : List Row) → Walked k h put_at rows rows' None → Fault2 k h i
@@ -53,11 +53,11 @@ module _ {k : ℕ} {h : List Event} {i put_at : ℕ} {rows : List Row} {s : Seen
 
   pub held_fewer : (get_or rows (item_at h i - 1) blank).accepted ≡ true → s.held ≡ count_below (holds h (i + 1)) (i + 1) + 1
   held_fewer e =
-      K.items.held_is
+      K.ready.items.held_is
       ∙ held_loss h K.ready.formed i K.ready.within K.five (ap (λ (r : Row). r.accepted) (sym (own_row_is K)) ∙ e) (ap (λ (r : Row). r.handed) (sym (own_row_is K)) ∙ K.not_handed)
 
   pub held_as_before : (get_or rows (item_at h i - 1) blank).accepted ≡ false → s.held ≡ count_below (holds h (i + 1)) (i + 1)
-  held_as_before e = K.items.held_is ∙ sym (held_none h K.ready.formed i K.ready.within K.five (ap (λ (r : Row). r.accepted) (sym (own_row_is K)) ∙ e))
+  held_as_before e = K.ready.items.held_is ∙ sym (held_none h K.ready.formed i K.ready.within K.five (ap (λ (r : Row). r.accepted) (sym (own_row_is K)) ∙ e))
 
   module _ (k' : ℕ) (rows' : List Row) (older : ℕ) (is_k : k' ≡ k) (given : Walked k' h put_at rows rows' (Some older)) where
     w : Walked k h put_at rows rows' (Some older)
@@ -77,7 +77,7 @@ module _ {k : ℕ} {h : List Event} {i put_at : ℕ} {rows : List Row} {s : Seen
         omega (arith, w.1.1 s.0 s.1.0 fr, c, r, le))
         (λ (t : passes h a i ≡ false).
         let c = cond-false (passes h a i) (suc (count_below (passes h a) i)) (count_below (passes h a) i) t in
-        omega (arith, c, K.items.few a hl, le))
+        omega (arith, c, K.ready.items.few a hl, le))
         (cases_Bool (passes h a i))
 
     older_counted : count_below (λ q. holds h i q && later h i (item_at h i) q) i ≡ older
@@ -118,7 +118,7 @@ module _ {k : ℕ} {h : List Event} {i put_at : ℕ} {rows : List Row} {s : Seen
         (λ (t : m ≡ item_at h i - 1 → ⊥).
         let lt' : m < length rows = omega (arith, len, length-set rows' (item_at h i - 1) (row_handed (get_or rows' (item_at h i - 1) blank))) in
         let ne : suc m ≢ item_at h i = λ z. t (omega arith) in
-        get_or-set_other rows' (item_at h i - 1) m (row_handed (get_or rows' (item_at h i - 1) blank)) blank t ∙ w.1.0 m lt' ∙ ap (λ (r : Row). passed h put_at r (suc m)) (K.items.rows_are m lt')
+        get_or-set_other rows' (item_at h i - 1) m (row_handed (get_or rows' (item_at h i - 1) blank)) blank t ∙ w.1.0 m lt' ∙ ap (λ (r : Row). passed h put_at r (suc m)) (K.ready.items.rows_are m lt')
         ∙ pick (accepted h put_at (suc m) && not (handed_out h i (suc m))) (row_of h i (suc m))
         ∙ sym (row_next h i (suc m)
         ∙ ap (λ (n : ℕ). row_step n (eqb (item_at h i) (suc m)) i (passes h (suc m) i) (row_of h i (suc m))) K.five
