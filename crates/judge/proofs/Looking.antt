@@ -13,7 +13,7 @@ use Rattle.judge.proofs.Known.{free_holds}
 use Rattle.judge.proofs.Walks.{part_at}
 
 -- the n-th event from the oldest on
-module _ (j : Judging) (i : ℕ) (K : Knows j i) (n : ℕ) (lt : n < i - j.seen.oldest) where
+module _ {j : Judging} {i : ℕ} (K : Knows j i) (n : ℕ) (lt : n < i - j.seen.oldest) where
   same : get_or (take (i - j.seen.oldest) (drop j.seen.oldest j.history.now)) n nothing ≡ event_at j.history.now (j.seen.oldest + n)
   same = part_at j.history.now j.seen.oldest i n lt
 

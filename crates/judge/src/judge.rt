@@ -35,6 +35,7 @@ fn run(history: &[Event], shape: Shape, rows: &mut [Row]) -> Verdict
         seen,
     };
     let mut flights = Flights::new();
+    // By position: the event is looked up in the history that `judging` holds, and a fault names its position.
     for i in 0..history.len() {
         if let Some(fault) = judging.step(i, &flights) {
             return Verdict::Fault(fault, i);
@@ -56,7 +57,7 @@ pub fn judge(history: &[Event], k: u32, segments: u32, rows: &mut [Row]) -> Resu
     };
     let used = ask(history, rows.len())?;
     clear(rows, Row::BLANK);
-    let verdict = run(history, shape, &mut rows[0..used]);
+    let verdict = run(history, shape, &mut rows[..used]);
     clear(rows, Row::BLANK);
     Ok(verdict)
 }

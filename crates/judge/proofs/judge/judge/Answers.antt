@@ -14,10 +14,10 @@ use Rattle.judge.proofs.judge.judge.Goals as goal
 
 -- the first u of the rows lent are worked in
 module _ (rows rows' : List Row) (u : ℕ) (used : u ≡ rows_used (length rows)) (is_cleared : rows' ≡ cleared blank rows) where
-  blank_row : (m : ℕ) → m < u → get_or (take (u - 0) rows') m blank ≡ blank
+  blank_row : (m : ℕ) → m < u → get_or (take u rows') m blank ≡ blank
   blank_row m lt =
       let long = length-replicate (rows_used (length rows)) blank in
-      get_or-take (u - 0) rows' m blank (omega arith) ∙ ap (λ (xs : List Row). get_or xs m blank) is_cleared
+      get_or-take u rows' m blank (omega arith) ∙ ap (λ (xs : List Row). get_or xs m blank) is_cleared
       ∙ get_or_append_left (replicate (rows_used (length rows)) blank) (drop most rows) blank m (omega (arith, long))
       ∙ get_or-replicate (rows_used (length rows)) m blank blank (omega arith)
 
@@ -28,7 +28,7 @@ pub run-verdict-requires : goal.run-verdict-requires
 run-verdict-requires c =
     let u = c.in_ok-used.used in
     let asked = c.in_ok-used.ensures in
-    let len : length (take (u - 0) c.clear.new.rows) ≡ u = length-take-le (u - 0) c.clear.new.rows (omega (arith, c.clear.auto.rows)) ∙ omega arith in
+    let len : length (take u c.clear.new.rows) ≡ u = length-take-le u c.clear.new.rows (omega (arith, c.clear.auto.rows)) ∙ omega arith in
     record {
       short = asked.0.0;
       formed = asked.0.1.0;
@@ -40,7 +40,7 @@ pub returns : goal.returns
 returns c =
     let u = c.in_ok-used.used in
     let asked = c.in_ok-used.ensures in
-    let len : length (take (u - 0) c.clear.new.rows) ≡ u - 0 = length-take-le (u - 0) c.clear.new.rows (omega (arith, c.clear.auto.rows)) in
+    let len : length (take u c.clear.new.rows) ≡ u = length-take-le u c.clear.new.rows (omega (arith, c.clear.auto.rows)) in
     let size = c.in_ok-ok_or.field-0 in
     let number = c.in_ok-ok_or-2.field-0 in
     let is_k = MatchOption-at_some _ (λ b. b.number ≡ c.args.k) size c.in_ok-ok_or.ensures.ok_part c.new.ensures in
@@ -51,7 +51,7 @@ returns c =
         subst (λ (k : ℕ). Judged k c.args.segments c.args.history.now c.run-verdict.result) is_k (subst (λ (n : ℕ). Judged size.number n c.args.history.now c.run-verdict.result) is_segments c.run-verdict.ensures),
       );
       rows = c.clear-2.ensures
-          ∙ cleared_front blank c.clear.new.rows c.run-verdict.new.rows (u - 0) (omega (arith, c.clear.auto.rows)) (c.run-verdict.auto.rows ∙ len)
+          ∙ cleared_front blank c.clear.new.rows c.run-verdict.new.rows u (omega (arith, c.clear.auto.rows)) (c.run-verdict.auto.rows ∙ len)
           ∙ cleared_twice c.args.rows.now c.clear.new.rows u asked.1 c.clear.ensures;
     }
 
