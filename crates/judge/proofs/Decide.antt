@@ -15,6 +15,8 @@ use Rattle.history.proofs.Facts.{tells_parts}
 use Rattle.history.proofs.Faults.{shows_cases}
 use Rattle.judge.specs.Verdicts.{Judged}
 use Rattle.judge.specs.Table.{two_puts, both_begun, three_puts, empty_late, empty_early, Table}
+use Rattle.judge.specs.Faults.{fault_number}
+use Rattle.judge.specs.declared.fault.Fault.TheVariants.{PassedTooOften, TooManyOlder, NotEmpty}
 use Rattle.judge.specs.declared.verdict.Verdict.{Verdict}
 use Rattle.judge.specs.declared.verdict.Verdict.TheVariants.{Sound, Fault}
 use Rattle.judge.proofs.Together.{dec_apart}
@@ -102,7 +104,7 @@ module _ (k n : ℕ) (h : List Event) (F : Formed h) (i : ℕ) (le : i ≤ lengt
 -- a verdict, checked by computation
 abbrev agrees : ℕ → ℕ → List Event → Verdict → Bool
 agrees k n h Sound = every (formed h) (length h) && every (spotless k n h) (length h)
-agrees k n h (Fault f e) = every (formed h) (length h) && (ltb e (length h) && (shown k n h f e && (every (λ g. not (shown k n h g e)) f && every (spotless k n h) e)))
+agrees k n h (Fault f e) = every (formed h) (length h) && (ltb e (length h) && (shown k n h (fault_number f) e && (every (λ g. not (shown k n h g e)) (fault_number f) && every (spotless k n h) e)))
 
 judged_by : (k n : ℕ) (h : List Event) (v : Verdict) → agrees k n h v ≡ true → Judged k n h v
 judged_by k n h Sound e =
@@ -112,12 +114,12 @@ judged_by k n h Sound e =
 judged_by k n h (Fault f e) q =
     let w = and_parts (every (formed h) (length h)) _ q in
     let F : Formed h = λ j lt. every_at (formed h) (length h) j w.0 lt in
-    let a = and_parts (ltb e (length h)) _ w.1 in let b = and_parts (shown k n h f e) _ a.1 in
-    let c = and_parts (every (λ g. not (shown k n h g e)) f) (every (spotless k n h) e) b.1 in
+    let a = and_parts (ltb e (length h)) _ w.1 in let b = and_parts (shown k n h (fault_number f) e) _ a.1 in
+    let c = and_parts (every (λ g. not (shown k n h g e)) (fault_number f)) (every (spotless k n h) e) b.1 in
     let lt : e < length h = ltb-true e (length h) a.0 in (
       lt,
       (
-        ((dec_shows k n h F e (omega arith) f).0 b.0, λ g l s. not_from_Decides (shown k n h g e) (dec_shows k n h F e (omega arith) g) (not-true _ (every_at (λ g. not (shown k n h g e)) f g c.0 l)) s),
+        ((dec_shows k n h F e (omega arith) (fault_number f)).0 b.0, λ g l s. not_from_Decides (shown k n h g e) (dec_shows k n h F e (omega arith) g) (not-true _ (every_at (λ g. not (shown k n h g e)) (fault_number f) g c.0 l)) s),
         λ i l. spotless_clean k n h F i (omega arith) (every_at (spotless k n h) e i c.1 l),
       ),
     )
@@ -126,10 +128,10 @@ judged_by k n h (Fault f e) q =
 pub table : Table
 unfolding flying
 table = record {
-  passed_once = judged_by 1 2 two_puts (Fault 2 5) refl;
+  passed_once = judged_by 1 2 two_puts (Fault PassedTooOften 5) refl;
   passed_once_of_two = judged_by 2 2 two_puts Sound refl;
   begun_before = judged_by 1 2 both_begun Sound refl;
-  two_older = judged_by 2 2 three_puts (Fault 3 7) refl;
-  held_before_take = judged_by 1 2 empty_late (Fault 4 3) refl;
+  two_older = judged_by 2 2 three_puts (Fault TooManyOlder 7) refl;
+  held_before_take = judged_by 1 2 empty_late (Fault NotEmpty 3) refl;
   take_before_put = judged_by 1 2 empty_early Sound refl;
 }

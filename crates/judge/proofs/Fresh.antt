@@ -1,5 +1,5 @@
 -- An item is handed out that was begun, not refused and not handed out before.
-use Rattle.std.proofs.Common.{◌≡◌, ℕ, suc, ◌-◌, ◌<◌, Bool, true, false, not, ◌&&◌, eqb, ltb, ◌≢◌, List, length, get_or, sym, refl, ap, ◌∙◌, inl, ⊎_elim, arith}
+use Rattle.std.proofs.Common.{◌≡◌, ℕ, ◌-◌, ◌<◌, Bool, true, false, not, ◌&&◌, eqb, ltb, ◌≢◌, List, get_or, sym, refl, ap, ◌∙◌, inl, ⊎_elim, arith}
 use Rattle.std.proofs.lemmas.Bool.{both_ways, ne_eqb, eq-eqb, eqb-true, and_parts, and_left, and_right, not_from_true}
 use Rattle.history.specs.Events.{kind_at, item_at, is, tells}
 use Rattle.history.specs.Items.{begun, accepted, refused_as_full, handed_out, held, younger, passes}
@@ -8,38 +8,30 @@ use Rattle.history.specs.declared.event.Event.{Event}
 use Rattle.history.proofs.Positions.{false_from, some_at, some_none, last_is, some_mono, some_one, bool_mid}
 use Rattle.history.proofs.Facts.{tells_parts, tells_from, begins_once, put_of, answered_few}
 use Rattle.judge.specs.Rows.{blank, row_of}
-use Rattle.judge.specs.State.{holds, ItemsAre, Ready, Fresh}
+use Rattle.judge.specs.State.{holds}
 use Rattle.judge.specs.Walk.{free}
 use Rattle.judge.specs.declared.row.Row.{Row}
 use Rattle.judge.specs.declared.seen.Seen.{Seen}
+use Rattle.judge.proofs.Ready.{Ready, Fresh}
+use Rattle.judge.proofs.Rows.{position_some}
 use Rattle.judge.proofs.Known.{row_at, free_holds, own_row}
 use Rattle.judge.proofs.Counting.{later}
 
-module _ {k : ℕ} {h : List Event} {i : ℕ} {rows : List Row} {s : Seen} (K : Fresh k h i rows s) where
-  R : Ready k h i (length rows)
+module _ {k : ℕ} {h : List Event} {i put_at : ℕ} {rows : List Row} {s : Seen} (K : Fresh k h i put_at rows s) where
+  R : Ready k h i rows s
   R = K.ready
-
-  I : ItemsAre k h i rows s
-  I = K.items
 
   five : kind_at h i ≡ 5
   five = K.five
 
   pub own_row_is : get_or rows (item_at h i - 1) blank ≡ row_of h i (item_at h i)
-  own_row_is = own_row k h i rows s R I five K.in_rows
-
-  -- the event that began the put
-  abbrev pub put_at : ℕ
-  put_at = (get_or rows (item_at h i - 1) blank).began - 1
+  own_row_is = own_row R five K.in_rows
 
   not_out_before : handed_out h i (item_at h i) ≡ false
   not_out_before = ap (λ (r : Row). r.handed) (sym own_row_is) ∙ K.not_handed
 
-  later_began : (get_or rows (item_at h i - 1) blank).began ≡ suc put_at
-  later_began = omega (arith, K.began)
-
   pub put_is : (put_at < i) × ((tells 1 h (item_at h i) put_at ≡ true) × ((m : ℕ) → put_at < m → m < i → tells 1 h (item_at h i) m ≡ false))
-  put_is = last_is (tells 1 h (item_at h i)) i put_at (ap (λ (r : Row). r.began) (sym own_row_is) ∙ later_began)
+  put_is = last_is (tells 1 h (item_at h i)) i put_at (position_some _ put_at (ap (λ (r : Row). r.began) (sym own_row_is) ∙ K.began))
 
   pub no_fault1 : Fault1 h i → ⊥
   no_fault1 f = ⊎_elim
@@ -77,10 +69,10 @@ module _ {k : ℕ} {h : List Event} {i : ℕ} {rows : List Row} {s : Seen} (K : 
       (and_right (is 5 h i) (not (eqb (item_at h i) (item_at h i))) (not_from_true (eqb (item_at h i) (item_at h i)) (eq-eqb (item_at h i) (item_at h i) refl)))
 
   pub free_is : (q : ℕ) → q < i → free h rows q ≡ holds h i q
-  free_is = free_holds h i rows R.formed (omega (arith, R.within)) R.fit I.rows_are
+  free_is = free_holds h i rows R.formed (omega (arith, R.within)) R.fit R.items.rows_are
 
   pub free_held : (q : ℕ) → q < i → free h rows q ≡ true → (kind_at h q ≡ 3) × ((held h i (item_at h q) ≡ true) × (get_or rows (item_at h q - 1) blank ≡ row_of h i (item_at h q)))
   free_held q lt e =
       let w = and_parts (is 3 h q) (held h i (item_at h q)) (sym (free_is q lt) ∙ e) in let c = eqb-true (kind_at h q) 3 w.0 in
       let a = answered_few h R.formed 3 q (inl refl) (omega (arith, R.within)) c in
-      (c, (w.1, row_at h i (item_at h q) rows I.rows_are a.0 (omega (arith, a.0, a.1, R.fit))))
+      (c, (w.1, row_at h i (item_at h q) rows R.items.rows_are a.0 (omega (arith, a.0, a.1, R.fit))))

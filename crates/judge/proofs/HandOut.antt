@@ -12,59 +12,64 @@ use Rattle.history.proofs.Facts.{tells_parts, tells_from, tells_kind}
 use Rattle.history.proofs.Items.{handed_out_more}
 use Rattle.history.proofs.Faults.{lowest2, lowest3, clean5}
 use Rattle.judge.specs.Rows.{blank, row_of, RowsAre}
-use Rattle.judge.specs.State.{holds, ItemsAre, Fresh}
+use Rattle.judge.specs.State.{holds, ItemsAre}
 use Rattle.judge.specs.Walk.{free, bumped, passed, Walk, Walked}
 use Rattle.judge.specs.declared.row.Row.{Row}
 use Rattle.judge.specs.declared.seen.Seen.{Seen}
+use Rattle.judge.proofs.Ready.{Fresh}
 use Rattle.judge.proofs.Rows.{row_handed, row_step, row_next}
 use Rattle.judge.proofs.Held.{hold_falls, held_loss, held_none}
 use Rattle.judge.proofs.Known.{out_item}
 use Rattle.judge.proofs.Counting.{later, older_count}
 use Rattle.judge.proofs.Walks.{passed_new}
-use Rattle.judge.proofs.Fresh.{own_row_is, put_at, put_is, no_fault1, later_is, own_not_older, passes_is, passes_own, free_is, free_held}
+use Rattle.judge.proofs.Fresh.{own_row_is, put_is, no_fault1, later_is, own_not_older, passes_is, passes_own, free_is, free_held}
 
-module _ {k : ℕ} {h : List Event} {i : ℕ} {rows : List Row} {s : Seen} (K : Fresh k h i rows s) where
-  pub walk : (o : ℕ) → o ≤ i → ((q : ℕ) → q < o → holds h i q ≡ false) → Walk k h rows o (put_at K)
+module _ {k : ℕ} {h : List Event} {i put_at : ℕ} {rows : List Row} {s : Seen} (K : Fresh k h i put_at rows s) where
+  pub walk : (o : ℕ) → o ≤ i → ((q : ℕ) → q < o → holds h i q ≡ false) → Walk k h rows o put_at
   walk o le none = record {
     short = K.ready.short;
     within = omega (arith, K.ready.within, (put_is K).0);
     formed = K.ready.formed;
     fit = K.ready.fit;
     none_older = λ q lt. free_is K q (omega arith) ∙ none q lt;
-    few = λ q lt e. let f = free_held K q (omega (arith, (put_is K).0)) e in subst (λ (r : Row). r.passes < k) (sym f.1.1) (K.items.few (item_at h q) f.1.0);
+    few = λ q lt e. let f = free_held K q (omega (arith, (put_is K).0)) e in subst (λ (r : Row). r.passes < k) (sym f.1.1) (K.ready.items.few (item_at h q) f.1.0);
   }
 
-  fault2 : (rows' : List Row) → Walked k h (put_at K) rows rows' None → Fault2 k h i
+  fault2 : (rows' : List Row) → Walked k h put_at rows rows' None → Fault2 k h i
   fault2 rows' w =
       let q = w.0 in let lt = w.1.0 in
       let f = free_held K q (omega (arith, (put_is K).0, lt)) w.1.1.0 in
       let a = item_at h q in
-      let acc : accepted h (put_at K) a ≡ true = some_at (tells 3 h a) (put_at K) q lt (tells_from 3 h a q f.0 refl) in
-      let ne : a ≢ item_at h i = λ e. both_ways (accepted h (put_at K) (item_at h i)) (own_not_older K) (ap (accepted h (put_at K)) (sym e) ∙ acc) in
-      let now : passes h a i ≡ true = passes_is K a ne ∙ and_from (accepted h (put_at K) a) (not (handed_out h i a)) acc (and_parts (accepted h i a) (not (handed_out h i a)) f.1.0).1 in
+      let acc : accepted h put_at a ≡ true = some_at (tells 3 h a) put_at q lt (tells_from 3 h a q f.0 refl) in
+      let ne : a ≢ item_at h i = λ e. both_ways (accepted h put_at (item_at h i)) (own_not_older K) (ap (accepted h put_at) (sym e) ∙ acc) in
+      let now : passes h a i ≡ true = passes_is K a ne ∙ and_from (accepted h put_at a) (not (handed_out h i a)) acc (and_parts (accepted h i a) (not (handed_out h i a)) f.1.0).1 in
       let c = cond-true (passes h a i) (suc (count_below (passes h a) i)) (count_below (passes h a) i) now in
       let r = ap (λ (r : Row). r.passes) f.1.1 in
       (K.five, (a, (f.1.0, (ne, omega (arith, c, r, w.1.1.1)))))
 
-  pub shows2 : (n : ℕ) (rows' : List Row) → Walked k h (put_at K) rows rows' None → Lowest k n h 2 i
-  shows2 n rows' w = lowest2 k n h i (no_fault1 K) (fault2 rows' w)
+  -- the walk is given k as a number
+  pub shows2 : (n k' : ℕ) (rows' : List Row) → k' ≡ k → Walked k' h put_at rows rows' None → Lowest k n h 2 i
+  shows2 n k' rows' is_k w = lowest2 k n h i (no_fault1 K) (fault2 rows' (subst (λ (m : ℕ). Walked m h put_at rows rows' None) is_k w))
 
   pub held_fewer : (get_or rows (item_at h i - 1) blank).accepted ≡ true → s.held ≡ count_below (holds h (i + 1)) (i + 1) + 1
   held_fewer e =
-      K.items.held_is
+      K.ready.items.held_is
       ∙ held_loss h K.ready.formed i K.ready.within K.five (ap (λ (r : Row). r.accepted) (sym (own_row_is K)) ∙ e) (ap (λ (r : Row). r.handed) (sym (own_row_is K)) ∙ K.not_handed)
 
   pub held_as_before : (get_or rows (item_at h i - 1) blank).accepted ≡ false → s.held ≡ count_below (holds h (i + 1)) (i + 1)
-  held_as_before e = K.items.held_is ∙ sym (held_none h K.ready.formed i K.ready.within K.five (ap (λ (r : Row). r.accepted) (sym (own_row_is K)) ∙ e))
+  held_as_before e = K.ready.items.held_is ∙ sym (held_none h K.ready.formed i K.ready.within K.five (ap (λ (r : Row). r.accepted) (sym (own_row_is K)) ∙ e))
 
-  module _ (rows' : List Row) (older : ℕ) (w : Walked k h (put_at K) rows rows' (Some older)) where
+  module _ (k' : ℕ) (rows' : List Row) (older : ℕ) (is_k : k' ≡ k) (given : Walked k' h put_at rows rows' (Some older)) where
+    w : Walked k h put_at rows rows' (Some older)
+    w = subst (λ (m : ℕ). Walked m h put_at rows rows' (Some older)) is_k given
+
     no_fault2 : Fault2 k h i → ⊥
     no_fault2 f =
         let a = f.1.0 in let hl = f.1.1.0 in let ne = f.1.1.1.0 in let le = f.1.1.1.1 in
         ⊎_elim
         (λ (t : passes h a i ≡ true).
-        let p = and_parts (accepted h (put_at K) a) (not (handed_out h i a)) (sym (passes_is K a ne) ∙ t) in
-        let s = some_find (tells 3 h a) (put_at K) p.0 in let u = tells_parts 3 h a s.0 s.1.1 in
+        let p = and_parts (accepted h put_at a) (not (handed_out h i a)) (sym (passes_is K a ne) ∙ t) in
+        let s = some_find (tells 3 h a) put_at p.0 in let u = tells_parts 3 h a s.0 s.1.1 in
         let fr : free h rows s.0 ≡ true = free_is K s.0 (omega (arith, (put_is K).0, s.1.0)) ∙ and_from (is 3 h s.0) (held h i (item_at h s.0)) (eq-eqb (kind_at h s.0) 3 u.0) (ap (held h i) u.1 ∙ hl) in
         let g = free_held K s.0 (omega (arith, (put_is K).0, s.1.0)) fr in
         let c = cond-true (passes h a i) (suc (count_below (passes h a) i)) (count_below (passes h a) i) t in
@@ -72,14 +77,14 @@ module _ {k : ℕ} {h : List Event} {i : ℕ} {rows : List Row} {s : Seen} (K : 
         omega (arith, w.1.1 s.0 s.1.0 fr, c, r, le))
         (λ (t : passes h a i ≡ false).
         let c = cond-false (passes h a i) (suc (count_below (passes h a) i)) (count_below (passes h a) i) t in
-        omega (arith, c, K.items.few a hl, le))
+        omega (arith, c, K.ready.items.few a hl, le))
         (cases_Bool (passes h a i))
 
     older_counted : count_below (λ q. holds h i q && later h i (item_at h i) q) i ≡ older
     older_counted =
-        count_same (λ q. holds h i q && later h i (item_at h i) q) (λ q. holds h i q && ltb q (put_at K)) i (λ j _. ap (λ (b : Bool). holds h i j && b) (later_is K j))
-        ∙ count_front (λ q. holds h i q && ltb q (put_at K)) (put_at K) i (omega (arith, (put_is K).0)) (λ j le _. and_right (holds h i j) (ltb j (put_at K)) (le-ltb j (put_at K) le))
-        ∙ count_same (λ q. holds h i q && ltb q (put_at K)) (free h rows) (put_at K) (λ j lt. and_last (holds h i j) (ltb j (put_at K)) (lt-ltb j (put_at K) lt) ∙ sym (free_is K j (omega (arith, (put_is K).0))))
+        count_same (λ q. holds h i q && later h i (item_at h i) q) (λ q. holds h i q && ltb q put_at) i (λ j _. ap (λ (b : Bool). holds h i j && b) (later_is K j))
+        ∙ count_front (λ q. holds h i q && ltb q put_at) put_at i (omega (arith, (put_is K).0)) (λ j le _. and_right (holds h i j) (ltb j put_at) (le-ltb j put_at le))
+        ∙ count_same (λ q. holds h i q && ltb q put_at) (free h rows) put_at (λ j lt. and_last (holds h i j) (ltb j put_at) (lt-ltb j put_at lt) ∙ sym (free_is K j (omega (arith, (put_is K).0))))
         ∙ sym w.0
       where
         and_last : (a b : Bool) → b ≡ true → (a && b) ≡ a
@@ -98,7 +103,7 @@ module _ {k : ℕ} {h : List Event} {i : ℕ} {rows : List Row} {s : Seen} (K : 
     out_own : get_or rows' (item_at h i - 1) blank ≡ row_of h i (item_at h i)
     out_own =
         let e : item_at h i ≡ suc (item_at h i - 1) = omega (arith, out_item h i K.ready.formed K.ready.within K.five) in
-        w.1.0 (item_at h i - 1) K.in_rows ∙ passed_new h (suc (item_at h i - 1)) (get_or rows (item_at h i - 1) blank) (put_at K) (ap (accepted h (put_at K)) (sym e) ∙ (own_not_older K)) ∙ own_row_is K
+        w.1.0 (item_at h i - 1) K.in_rows ∙ passed_new h (suc (item_at h i - 1)) (get_or rows (item_at h i - 1) blank) put_at (ap (accepted h put_at) (sym e) ∙ (own_not_older K)) ∙ own_row_is K
 
     rows_out : length rows' ≡ length rows → RowsAre h (i + 1) (set rows' (item_at h i - 1) (row_handed (get_or rows' (item_at h i - 1) blank)))
     rows_out len m lt = ⊎_elim
@@ -113,8 +118,8 @@ module _ {k : ℕ} {h : List Event} {i : ℕ} {rows : List Row} {s : Seen} (K : 
         (λ (t : m ≡ item_at h i - 1 → ⊥).
         let lt' : m < length rows = omega (arith, len, length-set rows' (item_at h i - 1) (row_handed (get_or rows' (item_at h i - 1) blank))) in
         let ne : suc m ≢ item_at h i = λ z. t (omega arith) in
-        get_or-set_other rows' (item_at h i - 1) m (row_handed (get_or rows' (item_at h i - 1) blank)) blank t ∙ w.1.0 m lt' ∙ ap (λ (r : Row). passed h (put_at K) r (suc m)) (K.items.rows_are m lt')
-        ∙ pick (accepted h (put_at K) (suc m) && not (handed_out h i (suc m))) (row_of h i (suc m))
+        get_or-set_other rows' (item_at h i - 1) m (row_handed (get_or rows' (item_at h i - 1) blank)) blank t ∙ w.1.0 m lt' ∙ ap (λ (r : Row). passed h put_at r (suc m)) (K.ready.items.rows_are m lt')
+        ∙ pick (accepted h put_at (suc m) && not (handed_out h i (suc m))) (row_of h i (suc m))
         ∙ sym (row_next h i (suc m)
         ∙ ap (λ (n : ℕ). row_step n (eqb (item_at h i) (suc m)) i (passes h (suc m) i) (row_of h i (suc m))) K.five
         ∙ ap (λ (b : Bool). row_step 5 b i (passes h (suc m) i) (row_of h i (suc m))) (ne_eqb (item_at h i) (suc m) (λ z. ne (sym z)))

@@ -1,3 +1,4 @@
+pub mod Ready
 pub mod Flying
 pub mod Together
 pub mod Rows
@@ -8,6 +9,7 @@ pub mod Fulls
 pub mod Empties
 pub mod Counting
 pub mod Walks
+pub mod Looking
 pub mod Fresh
 pub mod HandOut
 pub mod Decide

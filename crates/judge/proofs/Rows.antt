@@ -1,17 +1,18 @@
 -- The working rows, one event on.
-use Rattle.std.proofs.Common.{◌≡◌, ℕ, suc, ◌+◌, ◌-◌, ◌<◌, Bool, true, false, cond, ◌&&◌, ◌||◌, eqb, ◌≢◌, List, length, get_or, set, sym, refl, ap, ◌∙◌, subst, ⊎_elim, add-one, arith}
+use Rattle.std.proofs.Common.{◌≡◌, ℕ, zero, suc, ◌+◌, ◌-◌, ◌<◌, Bool, true, false, cond, ◌&&◌, ◌||◌, eqb, ◌≢◌, List, length, get_or, set, Some, None, Option, sym, refl, ap, ◌∙◌, subst, ⊎_elim, add-one, arith}
 use Rattle.std.proofs.lemmas.List.{get_or-set_same, get_or-set_other, length-set}
 use Rattle.std.proofs.lemmas.Bool.{ne_eqb, eq-eqb, cases_Bool, cases_eq}
-use Rattle.history.specs.Events.{kind_at, item_at}
+use Rattle.history.specs.Positions.{last_below}
+use Rattle.history.specs.Events.{kind_at, item_at, tells}
 use Rattle.history.specs.Items.{passes}
 use Rattle.history.specs.declared.event.Event.{Event}
 use Rattle.history.proofs.Items.{no_pass}
-use Rattle.judge.specs.Rows.{blank, row_of, RowsAre}
+use Rattle.judge.specs.Rows.{blank, position, row_of, RowsAre}
 use Rattle.judge.specs.declared.row.Row.{Row}
 
 -- a row with one field written
 abbrev pub row_begun : ℕ → Row → Row
-row_begun n r = record { began = n; passes = r.passes; accepted = r.accepted; refused = r.refused; handed = r.handed }
+row_begun n r = record { began = Some n; passes = r.passes; accepted = r.accepted; refused = r.refused; handed = r.handed }
 
 abbrev pub row_accepted : Row → Row
 row_accepted r = record { began = r.began; passes = r.passes; accepted = true; refused = r.refused; handed = r.handed }
@@ -25,10 +26,22 @@ row_handed r = record { began = r.began; passes = r.passes; accepted = r.accepte
 -- the row of an item after an event of kind c, at position i, of this item or not, that passes it or not
 abbrev pub row_step : ℕ → Bool → ℕ → Bool → Row → Row
 row_step c b i p r =
-    record { began = cond (b && eqb c 1) (suc i) r.began; passes = cond p (suc r.passes) r.passes; accepted = (b && eqb c 3) || r.accepted; refused = (b && eqb c 4) || r.refused; handed = (b && eqb c 5) || r.handed }
+    record { began = cond (b && eqb c 1) (Some i) r.began; passes = cond p (suc r.passes) r.passes; accepted = (b && eqb c 3) || r.accepted; refused = (b && eqb c 4) || r.refused; handed = (b && eqb c 5) || r.handed }
+
+position_on : (b : Bool) (i n : ℕ) → position (cond b (suc i) n) ≡ cond b (Some i) (position n)
+position_on true i n = refl
+position_on false i n = refl
+
+pub position_some : (n p : ℕ) → position n ≡ Some p → n ≡ suc p
+position_some zero p e = absurd (cc)
+position_some (suc n) p e = cc
+
+pub position_none : (n : ℕ) → position n ≡ None → n ≡ 0
+position_none zero e = refl
+position_none (suc n) e = absurd (cc)
 
 pub row_next : (h : List Event) (i x : ℕ) → row_of h (i + 1) x ≡ row_step (kind_at h i) (eqb (item_at h i) x) i (passes h x i) (row_of h i x)
-row_next h i x = rw add-one refl
+row_next h i x = rw add-one (ap (λ (o : Option ℕ). record (row_step (kind_at h i) (eqb (item_at h i) x) i (passes h x i) (row_of h i x)) { began = o }) (position_on (tells 1 h x i) i (last_below (tells 1 h x) i)))
 
 row_next_other : (h : List Event) (i c x : ℕ) → kind_at h i ≡ c → c ≢ 5 → row_of h (i + 1) x ≡ row_step c (eqb (item_at h i) x) i false (row_of h i x)
 row_next_other h i c x e n5 =

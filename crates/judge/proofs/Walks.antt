@@ -1,14 +1,15 @@
 -- The walk that passes items.
-use Rattle.std.proofs.Common.{◌≡◌, ℕ, suc, ◌+◌, ◌-◌, ◌<◌, Bool, true, false, cond, not, ◌&&◌, ◌||◌, ◌≢◌, List, length, get_or, set, sym, refl, ap, ◌∙◌, subst, inl, ⊎_elim, add-one, arith}
-use Rattle.std.proofs.lemmas.List.{get_or-set_same, get_or-set_other}
+use Rattle.std.proofs.Common.{◌≡◌, ℕ, suc, ◌+◌, ◌-◌, ◌<◌, ◌≤◌, Bool, true, false, cond, not, ◌&&◌, ◌||◌, ◌≢◌, List, length, get_or, take, drop, set, sym, refl, ap, ◌∙◌, subst, inl, ⊎_elim, add-one, arith}
+use Rattle.std.proofs.lemmas.List.{get_or-set_same, get_or-set_other, set-get_or, get_or-take, get_or-drop}
 use Rattle.std.proofs.lemmas.Bool.{both_ways, cond-false, cond-true, ne_eqb, eq-eqb, and_from, and_left, and_right, or_left, not-false, not_from_true, not_from_false, cases_Bool, cases_eq}
 use Rattle.history.specs.Positions.{count_below}
-use Rattle.history.specs.Events.{kind_at, item_at, is, tells}
+use Rattle.history.specs.Events.{nothing, event_at, kind_number, kind_at, item_at, is, tells}
 use Rattle.history.specs.WellFormed.{Formed}
 use Rattle.history.specs.Items.{accepted}
 use Rattle.history.specs.declared.event.Event.{Event}
+use Rattle.history.specs.declared.event.Kind.TheVariants.{Accepted}
 use Rattle.history.proofs.Positions.{some_more, count_more, false_from, some_none, some_find, count_none}
-use Rattle.history.proofs.Facts.{tells_parts, tells_from, tells_other, tells_kind, accepts_once, answered_few}
+use Rattle.history.proofs.Facts.{kind_if, tells_parts, tells_from, tells_other, tells_kind, accepts_once, answered_few}
 use Rattle.judge.specs.Rows.{blank}
 use Rattle.judge.specs.Walk.{free, bumped, passed, Walk}
 use Rattle.judge.specs.declared.row.Row.{Row}
@@ -117,24 +118,46 @@ module _ (k : ℕ) (h : List Event) (rows₀ : List Row) where
           ),
         )
 
--- what the loop has at a turn whose event is an acceptance
-pub record Turn (k : ℕ) (h : List Event) (rows₀ : List Row) (q older : ℕ) (rows : List Row) : Type 0 where
-  pub three : kind_at h q ≡ 3
-  pub in_h : q < length h
-  pub pos : 0 < item_at h q
-  pub in_rows : item_at h q - 1 < length rows₀
-  pub few : (get_or rows (item_at h q - 1) blank).handed ≡ false → (get_or rows (item_at h q - 1) blank).passes < k
-  pub free_is : (get_or rows (item_at h q - 1) blank).handed ≡ false → free h rows₀ q ≡ true
-  pub same : get_or rows (item_at h q - 1) blank ≡ get_or rows₀ (item_at h q - 1) blank
+-- what the loop has at a turn whose event accepts this item
+pub record Turn (k : ℕ) (h : List Event) (rows₀ : List Row) (q older : ℕ) (rows : List Row) (item : ℕ) : Type 0 where
+  pub pos : 0 < item
+  pub in_rows : item - 1 < length rows₀
+  pub few : (get_or rows (item - 1) blank).handed ≡ false → (get_or rows (item - 1) blank).passes < k
+  pub full : (get_or rows (item - 1) blank).handed ≡ false → k ≤ (get_or rows (item - 1) blank).passes + 1
+      → (free h rows₀ q ≡ true) × (k ≤ (get_or rows₀ (item_at h q - 1) blank).passes + 1)
+  pub pass : length rows ≡ length rows₀ → (get_or rows (item - 1) blank).handed ≡ false → (get_or rows (item - 1) blank).passes + 1 < k
+      → Going k h rows₀ (q + 1) (older + 1) (set rows (item - 1) (bumped (get_or rows (item - 1) blank)))
+  pub leave : (get_or rows (item - 1) blank).handed ≡ true → Going k h rows₀ (q + 1) older (set rows (item - 1) (get_or rows (item - 1) blank))
 
-pub turn : (k : ℕ) (h : List Event) (rows₀ : List Row) (from to q older : ℕ) (rows : List Row) → Walk k h rows₀ from to → q < to → kind_at h q ≡ 3 → Going k h rows₀ q older rows → Turn k h rows₀ q older rows
-turn k h rows₀ from to q older rows W lt e g =
+turn_at : (k : ℕ) (h : List Event) (rows₀ : List Row) (from to q older : ℕ) (rows : List Row) → Walk k h rows₀ from to → q < to → kind_at h q ≡ 3 → Going k h rows₀ q older rows → Turn k h rows₀ q older rows (item_at h q)
+turn_at k h rows₀ from to q older rows W lt e g =
     let in_h : q < length h = omega (arith, W.within) in
     let a = answered_few h W.formed 3 q (inl refl) in_h e in
     let in_rows : item_at h q - 1 < length rows₀ = omega (arith, a.0, a.1, W.fit) in
     let s = row_same k h rows₀ W.formed q older rows in_h e a.0 in_rows g in
     let f = free_is k h rows₀ W.formed q older rows in_h e a.0 in_rows g in
-    record { three = e; in_h = in_h; pos = a.0; in_rows = in_rows; few = λ o. subst (λ (r : Row). r.passes < k) (sym s) (W.few q lt (f o)); free_is = f; same = s }
+    record {
+      pos = a.0;
+      in_rows = in_rows;
+      few = λ o. subst (λ (r : Row). r.passes < k) (sym s) (W.few q lt (f o));
+      full = λ o m. (f o, subst (λ (r : Row). k ≤ r.passes + 1) s m);
+      pass = go_pass k h rows₀ W.formed q older rows in_h e a.0 in_rows g;
+      leave = λ o. subst (λ (xs : List Row). Going k h rows₀ (q + 1) older xs) (sym (set-get_or rows (item_at h q - 1) blank)) (go_handed k h rows₀ W.formed q older rows in_h e a.0 in_rows g o);
+    }
 
-pub go_as : (k : ℕ) (h : List Event) (rows₀ : List Row) (q o o' : ℕ) (rows rows' : List Row) → o' ≡ o → rows' ≡ rows → Going k h rows₀ q o rows → Going k h rows₀ q o' rows'
-go_as k h rows₀ q o o' rows rows' a b g = (a ∙ g.0, ((λ m lt. ap (λ (l : List Row). get_or l m blank) b ∙ g.1.0 m lt), g.1.1))
+-- the walk reads the events of a part of the history
+pub part_at : (h : List Event) (from to n : ℕ) → n < to - from → get_or (take (to - from) (drop from h)) n nothing ≡ event_at h (from + n)
+part_at h from to n lt = get_or-take (to - from) (drop from h) n nothing lt ∙ get_or-drop from h n nothing
+
+module _ {k : ℕ} {h : List Event} {rows₀ : List Row} {from to : ℕ} (W : Walk k h rows₀ from to) (start n older : ℕ) (rows : List Row) (lt : n < to - start) (g : Going k h rows₀ (start + n) older rows) where
+  pub turn : (get_or (take (to - start) (drop start h)) n nothing).kind ≡ Accepted → Turn k h rows₀ (start + n) older rows (get_or (take (to - start) (drop start h)) n nothing).item
+  turn e =
+      let same = part_at h start to n lt in
+      subst (λ (m : ℕ). Turn k h rows₀ (start + n) older rows m) (ap (λ (y : Event). y.item) (sym same))
+      (turn_at k h rows₀ from to (start + n) older rows W (omega arith) (ap (λ (y : Event). kind_number y.kind) (sym same) ∙ ap kind_number e) g)
+
+  pub go_past : ((get_or (take (to - start) (drop start h)) n nothing).kind ≡ Accepted → ⊥) → Going k h rows₀ (start + n + 1) older rows
+  go_past other = go_other k h rows₀ (start + n) older rows (λ e. other (ap (λ (y : Event). y.kind) (part_at h start to n lt) ∙ kind_if _ 3 e)) g
+
+pub go_as : (k : ℕ) (h : List Event) (rows₀ : List Row) (q q' o o' : ℕ) (rows rows' : List Row) → q' ≡ q → o' ≡ o → rows' ≡ rows → Going k h rows₀ q o rows → Going k h rows₀ q' o' rows'
+go_as k h rows₀ q q' o o' rows rows' e a b g = subst (λ (i : ℕ). Going k h rows₀ i o' rows') (sym e) (a ∙ g.0, ((λ m lt. ap (λ (l : List Row). get_or l m blank) b ∙ g.1.0 m lt), g.1.1))

@@ -1,4 +1,5 @@
 pub mod Flights
+pub mod Faults
 pub mod Rows
 pub mod Verdicts
 pub mod State

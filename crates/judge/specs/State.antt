@@ -1,28 +1,27 @@
 -- What the judge knows before event i.
-use Rattle.std.specs.Prelude.{◌≡◌, ℕ, ◌+◌, ◌-◌, ◌<◌, ◌≤◌, Bool, true, false, ◌&&◌, List, length, Some, None, Option, slice_index_or}
+use Rattle.std.specs.Prelude.{◌≡◌, ℕ, ◌+◌, ◌<◌, ◌≤◌, Bool, true, false, ◌&&◌, List, length, Some, None, Option}
 use Rattle.history.specs.Positions.{count_below}
-use Rattle.history.specs.Events.{kind_at, item_at, is}
-use Rattle.history.specs.Calls.{puts_before}
-use Rattle.history.specs.WellFormed.{Formed}
+use Rattle.history.specs.Events.{item_at, is}
 use Rattle.history.specs.Tables.{LastsAre}
 use Rattle.history.specs.Items.{held, passes}
 use Rattle.judge.specs.Flights.{flying, together}
 use Rattle.history.specs.Faults.{Clean, Lowest}
-use Rattle.history.specs.Limits.{Short}
 use Rattle.history.specs.declared.event.Event.{Event}
-use Rattle.history.specs.declared.threads.LastEvents.{LastEvents}
-use Rattle.judge.specs.Rows.{blank, RowsAre}
+use Rattle.judge.specs.Faults.{fault_number}
+use Rattle.judge.specs.declared.fault.Fault.{Fault}
+use Rattle.judge.specs.Rows.{RowsAre}
 use Rattle.judge.specs.declared.row.Row.{Row}
 use Rattle.judge.specs.declared.seen.Seen.{Seen}
 use Rattle.judge.specs.declared.flights.Flights.{Flights}
+use Rattle.judge.specs.declared.judging.Judging.{Judging}
 
 -- event q accepted an item that is held before event i
 abbrev pub holds : List Event → ℕ → ℕ → Bool
 holds h i q = is 3 h q && held h i (item_at h q)
 
 -- what is known of the calls: each thread's last event, how many are in flight, and whether two ever were together
-pub record FlightsAre (h : List Event) (i : ℕ) (table : LastEvents) (s : Flights) : Type 0 where
-  pub lasts : LastsAre h i table
+pub record FlightsAre (h : List Event) (i : ℕ) (s : Flights) : Type 0 where
+  pub lasts : LastsAre h i s.last_events
   pub count_is : s.count ≡ flying h i
   pub crossed_is : s.crossed ≡ together h i
 
@@ -34,25 +33,19 @@ pub record ItemsAre (k : ℕ) (h : List Event) (i : ℕ) (rows : List Row) (s : 
   pub held_is : s.held ≡ count_below (holds h i) i
   pub few : (a : ℕ) → held h i a ≡ true → count_below (passes h a) i < k
 
--- the history is in order, m rows are enough, and event i is in it
-pub record Ready (k : ℕ) (h : List Event) (i m : ℕ) : Type 0 where
-  pub slots : 0 < k
-  pub short : Short h
-  pub within : i < length h
-  pub formed : Formed h
-  pub fit : puts_before h (length h) ≤ m
+-- event i is next, and this is known of the items before it
+pub record Knows (j : Judging) (i : ℕ) : Type 0 where
+  pub within : i < length j.history.now
+  pub items : ItemsAre j.shape.k.number j.history.now i j.rows.now j.seen
 
--- event i hands out an item that was put, not refused and not handed out before
-pub record Fresh (k : ℕ) (h : List Event) (i : ℕ) (rows : List Row) (s : Seen) : Type 0 where
-  pub ready : Ready k h i (length rows)
-  pub items : ItemsAre k h i rows s
-  pub five : kind_at h i ≡ 5
-  pub in_rows : item_at h i - 1 < length rows
-  pub began : 0 < (slice_index_or rows (item_at h i - 1) blank).began
-  pub not_refused : (slice_index_or rows (item_at h i - 1) blank).refused ≡ false
-  pub not_handed : (slice_index_or rows (item_at h i - 1) blank).handed ≡ false
+-- event i shows no fault, and the judge goes on with the same history
+pub record GoesOn (j j' : Judging) (i : ℕ) : Type 0 where
+  pub clean : Clean j.shape.k.number j.shape.segments.number j.history.now i
+  pub same_history : j'.history.now ≡ j.history.now
+  pub same_shape : j'.shape ≡ j.shape
+  pub items : ItemsAre j.shape.k.number j.history.now (i + 1) j'.rows.now j'.seen
 
--- what is answered of event i: no fault, and the judge goes on; or its lowest fault
-abbrev pub Stepped : ℕ → ℕ → List Event → ℕ → List Row → Seen → Option ℕ → Type 0
-Stepped k n h i rows s None = Clean k n h i × ItemsAre k h (i + 1) rows s
-Stepped k n h i rows s (Some f) = Lowest k n h f i
+-- what is answered of event i: no fault, or its lowest
+abbrev pub Stepped : Judging → Judging → ℕ → Option Fault → Type 0
+Stepped j j' i None = GoesOn j j' i
+Stepped j j' i (Some f) = Lowest j.shape.k.number j.shape.segments.number j.history.now (fault_number f) i

@@ -3,6 +3,7 @@ use Rattle.std.specs.Prelude.{ℕ, List, [], ◌∷◌}
 use Rattle.history.specs.declared.event.Kind.TheVariants.{PutBegun, TakeBegun, Accepted, HandedOut, Empty}
 use Rattle.history.specs.declared.event.Event.{Event}
 use Rattle.judge.specs.Verdicts.{Judged}
+use Rattle.judge.specs.declared.fault.Fault.TheVariants.{PassedTooOften, TooManyOlder, NotEmpty}
 use Rattle.judge.specs.declared.verdict.Verdict.TheVariants.{Sound, Fault}
 
 abbrev put : ℕ → ℕ → Event
@@ -41,9 +42,9 @@ abbrev pub empty_early : List Event
 empty_early = take 1 ∷ put 0 1 ∷ ok 0 1 ∷ empty 1 ∷ []
 
 pub record Table : Type 0 where
-  pub passed_once : Judged 1 2 two_puts (Fault 2 5)
+  pub passed_once : Judged 1 2 two_puts (Fault PassedTooOften 5)
   pub passed_once_of_two : Judged 2 2 two_puts Sound
   pub begun_before : Judged 1 2 both_begun Sound
-  pub two_older : Judged 2 2 three_puts (Fault 3 7)
-  pub held_before_take : Judged 1 2 empty_late (Fault 4 3)
+  pub two_older : Judged 2 2 three_puts (Fault TooManyOlder 7)
+  pub held_before_take : Judged 1 2 empty_late (Fault NotEmpty 3)
   pub take_before_put : Judged 1 2 empty_early Sound

@@ -1,53 +1,46 @@
 // The judge.
 ghost use Rattle.std.specs.Prelude.{◌≡◌, ℕ, ◌<◌, ◌≤◌, length, slice_index_or};
 ghost use Rattle.history.specs.Calls.{puts_before};
-ghost use Rattle.history.specs.Limits.{SegmentFits, Short};
+ghost use Rattle.history.specs.Limits.{Short};
 ghost use Rattle.history.specs.WellFormed.{Formed};
-ghost use Rattle.judge.specs.Answers.{SegmentsFit, Answered, RowsLeft};
+ghost use Rattle.judge.specs.Answers.{Answered, RowsLeft};
 ghost use Rattle.judge.specs.Rows.{blank};
 ghost use Rattle.judge.specs.Verdicts.{Judged};
 
 use super::flights::Flights;
+use super::judging::Judging;
 use super::row::Row;
 use super::seen::Seen;
-use super::step::step;
+use super::shape::Shape;
 use super::verdict::Verdict;
+use bounded::Bounded;
 use history::asked::ask;
 use history::event::Event;
 use history::refusal::Refusal;
 use history::rows::clear;
-use history::threads::LastEvents;
 
 // The events in turn, until one shows a fault.
-fn run(history: &[Event], k: u32, segments: u32, rows: &mut [Row]) -> Verdict
-    requires limits { (SegmentFits k) × (SegmentsFit segments) }
+fn run(history: &[Event], shape: Shape, rows: &mut [Row]) -> Verdict
     requires short { Short history.now }
     requires formed { Formed history.now }
     requires fit { puts_before history.now (length history.now) ≤ length rows.old }
     requires blank { (m : ℕ) → m < length rows.old → slice_index_or rows.old m blank ≡ blank }
-    ensures { Judged k segments history.now result }
+    ensures { Judged shape.k.number shape.segments.number history.now result }
 {
-    let mut threads = LastEvents::new();
-    let mut seen = Seen { oldest: 0, held: 0 };
-    let mut flights = Flights {
-        count: 0,
-        crossed: false,
+    let seen = Seen { oldest: 0, held: 0 };
+    let mut judging = Judging {
+        history,
+        shape,
+        rows,
+        seen,
     };
-    for (i, event) in history.iter().enumerate() {
-        let last = threads.of(event.thread);
-        if let Some(fault) = step(
-            history,
-            i,
-            k,
-            segments,
-            rows,
-            &mut seen,
-            last,
-            flights.crossed,
-        ) {
+    let mut flights = Flights::new();
+    // By position: the event is looked up in the history that `judging` holds, and a fault names its position.
+    for i in 0..history.len() {
+        if let Some(fault) = judging.step(i, &flights) {
             return Verdict::Fault(fault, i);
         }
-        flights = flights.after(history, i, &mut threads);
+        flights.note(history, i);
     }
     Verdict::Sound
 }
@@ -58,15 +51,13 @@ pub fn judge(history: &[Event], k: u32, segments: u32, rows: &mut [Row]) -> Resu
     ensures answer { Answered k segments history.now (length rows.old) result }
     ensures rows { RowsLeft rows.old rows.new result }
 {
-    if k < 1 || k > 64 {
-        return Err(Refusal::SegmentSize);
-    }
-    if segments < 2 || segments > 64 {
-        return Err(Refusal::Segments);
-    }
+    let shape = Shape {
+        k: Bounded::new(k).ok_or(Refusal::SegmentSize)?,
+        segments: Bounded::new(segments).ok_or(Refusal::Segments)?,
+    };
     let used = ask(history, rows.len())?;
     clear(rows, Row::BLANK);
-    let verdict = run(history, k, segments, &mut rows[0..used]);
+    let verdict = run(history, shape, &mut rows[..used]);
     clear(rows, Row::BLANK);
     Ok(verdict)
 }

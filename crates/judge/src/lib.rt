@@ -2,10 +2,13 @@
 #![tactic(auto)]
 
 mod answers;
+pub mod fault;
 mod flights;
 pub mod judge;
+mod judging;
 pub mod row;
 mod seen;
+mod shape;
 mod step;
 pub mod theorems;
 pub mod verdict;

@@ -2,20 +2,22 @@
 ghost use Rattle.std.specs.Prelude.{◌≡◌};
 ghost use Rattle.judge.specs.Verdicts.{verdict_number};
 
-// Fault has the number of the fault and the event that shows it, counted from 0.
-#[derive(Clone, Copy)]
+use super::fault::Fault;
+
+// Fault has the fault and the event that shows it, counted from 0. It is no Option, since a verdict is printed.
+#[derive(Clone, Copy, Debug, PartialEq, Eq)]
 pub enum Verdict {
     Sound,
-    Fault(u32, usize),
+    Fault(Fault, usize),
 }
 
-impl Verdict {
-    pub fn number(self) -> u32
-        ensures { result ≡ verdict_number self }
-    {
-        match self {
+impl From<Verdict> for u32 {
+    ghost from_gives = { λ verdict n. n ≡ verdict_number verdict };
+
+    fn from(verdict: Verdict) -> u32 {
+        match verdict {
             Verdict::Sound => 0,
-            Verdict::Fault(fault, _) => fault,
+            Verdict::Fault(fault, _) => u32::from(fault),
         }
     }
 }

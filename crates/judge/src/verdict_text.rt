@@ -11,7 +11,10 @@ impl fmt::Display for Verdict {
     fn fmt<W: fmt::Write>(&self, f: &mut fmt::Formatter<W>) -> fmt::Result {
         match *self {
             Verdict::Sound => write!(f, "sound"),
-            Verdict::Fault(fault, event) => write!(f, "{fault}:{event}"),
+            Verdict::Fault(fault, event) => {
+                let number = u32::from(fault);
+                write!(f, "{number}:{event}")
+            }
         }
     }
 }

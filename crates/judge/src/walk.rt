@@ -1,9 +1,12 @@
 // Walks over the acceptances of a history, from the oldest that may be of a held item.
-ghost use Rattle.judge.specs.Walk.{Walk, Walked, Look, First};
+ghost use Rattle.judge.specs.State.{Knows};
+ghost use Rattle.judge.specs.Walk.{Walk, Walked, First};
 
+use super::judging::Judging;
 use super::row::Row;
 use history::event::{Event, Kind};
 
+// No method of `Judging`: the loop lends one row, which a slice allows and a field behind `self` does not.
 // Passes each item accepted from event `from` to before event `to` that is not handed out; answers how many, or nothing where one is now passed k times.
 pub(super) fn pass(
     history: &[Event],
@@ -15,19 +18,16 @@ pub(super) fn pass(
     requires { Walk k history.now rows.old from to }
     ensures { Walked k history.now to rows.old rows.new result }
 {
+    let start = from.min(to);
     let mut older = 0;
-    for q in from.min(to)..to {
-        if let Kind::Accepted = history[q].kind {
-            let m = history[q].item as usize - 1;
-            let row = rows[m];
+    for event in &history[start..to] {
+        if event.kind == Kind::Accepted {
+            let row = &mut rows[event.item as usize - 1];
             if !row.handed {
                 if row.passes + 1 >= k {
                     return None;
                 }
-                rows[m] = Row {
-                    passes: row.passes + 1,
-                    ..row
-                };
+                row.passes += 1;
                 older += 1;
             }
         }
@@ -35,18 +35,18 @@ pub(super) fn pass(
     Some(older)
 }
 
-// The first acceptance from event `from` on, before event i, of an item that is held; i where there is none.
-pub(super) fn first_held(history: &[Event], rows: &[Row], from: usize, i: usize) -> usize
-    requires { Look history.now rows.now from i }
-    ensures { First history.now i result }
-{
-    for q in from..i {
-        if let Kind::Accepted = history[q].kind {
-            let m = history[q].item as usize - 1;
-            if !rows[m].handed {
-                return q;
+impl Judging<'_> {
+    // The first acceptance before event i of an item that is held; i where there is none.
+    pub(super) fn first_held(&self, i: usize) -> usize
+        requires { Knows self.now i }
+        ensures { First self.now.history.now i result }
+    {
+        let oldest = self.seen.oldest;
+        for (ahead, event) in self.history[oldest..i].iter().enumerate() {
+            if event.kind == Kind::Accepted && !self.rows[event.item as usize - 1].handed {
+                return oldest + ahead;
             }
         }
+        i
     }
-    i
 }

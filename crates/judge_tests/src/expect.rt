@@ -10,53 +10,41 @@ use std::test::Fail;
 
 // What a row lent may hold at first.
 pub const USED: Row = Row {
-    began: 7,
+    began: Some(6),
     passes: 9,
     accepted: true,
     refused: true,
     handed: true,
 };
 
-fn same(row: &Row, other: &Row) -> bool {
-    row.began == other.began
-        && row.passes == other.passes
-        && row.accepted == other.accepted
-        && row.refused == other.refused
-        && row.handed == other.handed
-}
-
-pub fn check_rows(rt: &impl Abort, rows: &[Row], all: &Row) {
+pub fn check_rows(rt: &impl Abort, rows: &[Row], all: Row) {
     for row in rows {
-        assert!(rt; same(row, all), "a row");
+        assert_eq!(rt; *row, all);
     }
 }
 
-// The verdict on the history that the text tells: the fault and its event, both 0 where it is sound. The rows are blank then.
+// The verdict on the history that the text tells. The rows are blank then.
 pub fn finds(
     rt: &impl Abort,
     heap: Global,
     text: &str,
     k: u32,
     segments: u32,
-    fault: u32,
-    event: usize,
+    verdict: Verdict,
 ) -> Result<(), Fail> {
-    let events = told(rt, heap, text)?;
+    let events = told(heap, text)?;
     let mut rows = [USED; 8];
-    match judge(&events, k, segments, &mut rows) {
-        Ok(verdict) => {
-            assert_eq!(rt; verdict.number(), fault, "{}", text);
-            if let Verdict::Fault(_, at) = verdict {
-                assert_eq!(rt; at, event, "{}", text);
-            }
-        }
-        Err(_) => return Err(Fail::new("refused")),
-    }
-    check_rows(rt, &rows, &Row::BLANK);
+    assert_eq!(rt;
+        judge(&events, k, segments, &mut rows),
+        Ok(verdict),
+        "{}",
+        text
+    );
+    check_rows(rt, &rows, Row::BLANK);
     Ok(())
 }
 
-// The refusal of that history in so many rows, with the event that it names. The rows are as they were.
+// The refusal of that history in so many rows. The rows are as they were.
 pub fn refuses(
     rt: &impl Abort,
     heap: Global,
@@ -64,20 +52,16 @@ pub fn refuses(
     k: u32,
     segments: u32,
     lent: usize,
-    number: u32,
-    event: usize,
+    refusal: Refusal,
 ) -> Result<(), Fail> {
-    let events = told(rt, heap, text)?;
+    let events = told(heap, text)?;
     let mut rows = vec![in heap; USED; lent]?;
-    match judge(&events, k, segments, &mut rows) {
-        Ok(_) => return Err(Fail::new("judged")),
-        Err(refusal) => {
-            assert_eq!(rt; refusal.number(), number, "{}", text);
-            if let Refusal::Malformed(at) = refusal {
-                assert_eq!(rt; at, event, "{}", text);
-            }
-        }
-    }
-    check_rows(rt, &rows, &USED);
+    assert_eq!(rt;
+        judge(&events, k, segments, &mut rows),
+        Err(refusal),
+        "{}",
+        text
+    );
+    check_rows(rt, &rows, USED);
     Ok(())
 }

@@ -1,7 +1,6 @@
 // Histories from short texts: a word for each event, with a letter for its kind and a digit each for its thread and its item.
 use history::event::{Event, Kind};
 use std::alloc::Global;
-use std::process::Abort;
 use std::test::Fail;
 
 // The letters: put begun, take begun, accepted, full, out, empty.
@@ -24,14 +23,16 @@ fn digit(letter: u8) -> Result<u32, Fail> {
     }
 }
 
-pub fn told(rt: &impl Abort, heap: Global, text: &str) -> Result<Vec<Event>, Fail> {
+pub fn told(heap: Global, text: &str) -> Result<Vec<Event>, Fail> {
     let mut events = Vec::new(heap);
-    for letters in text.as_bytes().chunks(4) {
-        assert!(rt; letters.len() >= 3);
+    for word in text.as_bytes().chunks(4) {
+        let [letter, thread, item, ..] = *word else {
+            return Err(Fail::new("a word is too short"));
+        };
         events.push(Event {
-            kind: kind(letters[0])?,
-            thread: digit(letters[1])?,
-            item: digit(letters[2])?,
+            kind: kind(letter)?,
+            thread: digit(thread)?,
+            item: digit(item)?,
         })?;
     }
     Ok(events)
