@@ -1,5 +1,5 @@
 -- What a call keeps lies in the ring, and so does every access that it makes.
-use Rattle.std.proofs.Common.{ℕ, suc, ◌+◌, ◌%◌, ◌<◌, cond, eqb, ltb, leb, List, [], ◌∷◌, Some, None, Option, mod-lt, mul-le-mul_left, mul-suc, arith}
+use Rattle.std.proofs.Common.{ℕ, suc, ◌+◌, ◌<◌, cond, eqb, ltb, leb, List, [], ◌∷◌, Some, None, Option, mod-lt, mul-le-mul_left, mul-suc, arith}
 use Rattle.std.proofs.lemmas.Bool.{ltb-true, cond_both}
 use Rattle.steps.specs.declared.access.Got.{Got}
 use Rattle.steps.specs.declared.access.Got.TheVariants.{Pair, Said}
@@ -14,6 +14,7 @@ use Rattle.steps.specs.declared.kept.Marker.{Marker}
 use Rattle.steps.specs.declared.put_step.PutStep.{PutStep}
 use Rattle.steps.specs.declared.put_step.PutStep.TheVariants.{P1, P2, P3, P4, P5, P6, P7, P8, P9}
 use Rattle.steps.specs.declared.search.Search.{Search}
+use Rattle.steps.specs.declared.search.Search.TheVariants.{Fresh, Begun}
 use Rattle.steps.specs.declared.take_step.TakeStep.{TakeStep}
 use Rattle.steps.specs.declared.take_step.TakeStep.TheVariants.{D1, D2, D3, D4, D5, D6, D7, D8}
 use Rattle.steps.specs.Tags.{same_tag}
@@ -78,9 +79,8 @@ module _ (q : Ring) where
 
   module _ (some_slots : 0 < q.k) (some_segments : 0 < q.n) where
     place_below : (r : ℕ) (s : Search) → place q r s < q.k
-    place_below r s = cond_both (eqb s.made 0) (r % q.k) (cond (ltb (s.last + 1) q.k) (s.last + 1) 0) (λ i. i < q.k)
-        (λ _. mod-lt r some_slots)
-        (λ _. cond_both (ltb (s.last + 1) q.k) (s.last + 1) 0 (λ i. i < q.k) (λ e. ltb-true (s.last + 1) q.k e) (λ _. some_slots))
+    place_below r Fresh = mod-lt r some_slots
+    place_below r (Begun m last) = cond_both (ltb (last + 1) q.k) (last + 1) 0 (λ i. i < q.k) (λ e. ltb-true (last + 1) q.k e) (λ _. some_slots)
 
     probe_below : (r : ℕ) (m : Marker) (s : Search) → At m → probe q r m s < whole q
     probe_below r m s h =

@@ -1,49 +1,52 @@
 // The probes of a search.
 ghost use Rattle.std.specs.Prelude.{◌≡◌};
 ghost use Rattle.steps.specs.Ring.{ring};
-ghost use Rattle.steps.specs.Probes.{fresh, place, probe, further};
+ghost use Rattle.steps.specs.Probes.{place, probe, further};
 
 use super::config::Config;
 use super::kept::Marker;
 use super::search::Search;
 
-impl Search {
-    pub(crate) fn new() -> Search
-        ensures { result ≡ fresh }
-    {
-        Search { made: 0, last: 0 }
-    }
+// What a thread's turn brings to the step that is made in it.
+#[derive(Clone, Copy)]
+pub(crate) struct Turn {
+    pub(crate) config: Config,
+    pub(crate) start: u32,
+}
 
-    // The place of the next probe.
-    pub(crate) fn place(self, config: Config, start: u32) -> u32
-        ensures { result ≡ place (ring config) start self }
+impl Turn {
+    // The place of a search's next probe.
+    fn place(self, search: Search) -> u32
+        ensures { result ≡ place (ring self.config) self.start search }
     {
-        if self.made == 0 {
-            start % config.k()
-        } else if self.last < config.k() - 1 {
-            self.last + 1
-        } else {
-            0
+        match search {
+            Search::Fresh => self.start % self.config.k(),
+            Search::Begun { last, .. } if last < self.config.k() - 1 => last + 1,
+            Search::Begun { .. } => 0,
         }
     }
 
-    // The slot of the next probe, in the segment of a marker.
-    pub(crate) fn probe(self, config: Config, start: u32, marker: Marker) -> usize
-        ensures { result ≡ probe (ring config) start marker self }
+    // The slot of a search's next probe, in the segment of a marker.
+    pub(crate) fn probe(self, segment: Marker, search: Search) -> usize
+        ensures { result ≡ probe (ring self.config) self.start segment search }
     {
-        marker.at as usize + self.place(config, start) as usize
+        segment.at as usize + self.place(search) as usize
     }
 
-    // The search after its next probe; nothing where that is the last.
-    pub(crate) fn further(self, config: Config, start: u32) -> Option<Search>
-        ensures { result ≡ further (ring config) start self }
+    // A search after its next probe; nothing where that is the last.
+    pub(crate) fn further(self, search: Search) -> Option<Search>
+        ensures { result ≡ further (ring self.config) self.start search }
     {
-        if self.made >= config.k() - 1 {
+        let made = match search {
+            Search::Fresh => 0,
+            Search::Begun { made, .. } => made,
+        };
+        if made >= self.config.k() - 1 {
             return None;
         }
-        Some(Search {
-            made: self.made + 1,
-            last: self.place(config, start),
+        Some(Search::Begun {
+            made: made + 1,
+            last: self.place(search),
         })
     }
 }
