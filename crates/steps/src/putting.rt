@@ -20,16 +20,17 @@ impl PutStep {
     pub(crate) fn access(self, turn: Turn, item: u32) -> Access
         ensures { result ≡ access_of (put_row (ring turn.config) turn.start item self) }
     {
+        let Turn { config, .. } = turn;
         match self {
             Self::P1 => Access::Read(Place::Tail),
             Self::P2(_) => Access::Read(Place::Head),
             Self::P3(t, _, s) => Access::Read(Place::Slot(turn.probe(t, s))),
             Self::P4(_, _, _) => Access::Read(Place::Tail),
             Self::P5(slot) => Access::Swap(Place::Slot(slot.index), slot.tag, item),
-            Self::P6(t) => Access::Swap(Place::Tail, t.tag, turn.config.next(t.at)),
+            Self::P6(t) => Access::Swap(Place::Tail, t.tag, config.next(t.at)),
             Self::P7(h, s) => Access::Read(Place::Slot(turn.probe(h, s))),
             Self::P8(_) => Access::Read(Place::Head),
-            Self::P9(h) => Access::Swap(Place::Head, h.tag, turn.config.next(h.at)),
+            Self::P9(h) => Access::Swap(Place::Head, h.tag, config.next(h.at)),
         }
     }
 
@@ -37,15 +38,12 @@ impl PutStep {
     pub(crate) fn advanced(self, turn: Turn, item: u32, got: Got) -> Call
         ensures { result ≡ led (put_row (ring turn.config) turn.start item self) got (Call.Putting item self) }
     {
+        let Turn { config, .. } = turn;
         let next = match (self, got) {
-            (Self::P1, Got::Pair(tag, n)) => Self::P2(turn.config.marker(tag, n)),
-            (Self::P2(t), Got::Pair(tag, n)) => Self::P3(
-                t,
-                turn.config.marker(tag, n),
-                Search::Fresh,
-            ),
+            (Self::P1, Got::Pair(tag, n)) => Self::P2(config.marker(tag, n)),
+            (Self::P2(t), Got::Pair(tag, n)) => Self::P3(t, config.marker(tag, n), Search::Fresh),
             (Self::P3(t, h, s), Got::Pair(tag, n)) => after_p3(turn, t, h, s, tag, n),
-            (Self::P4(t, h, kept), Got::Pair(tag, _)) => after_p4(turn.config, t, h, kept, tag),
+            (Self::P4(t, h, kept), Got::Pair(tag, _)) => after_p4(config, t, h, kept, tag),
             (Self::P5(slot), Got::Said(done)) => return after_p5(item, slot, done),
             (Self::P6(_), Got::Said(_)) => Self::P1,
             (Self::P7(h, s), Got::Pair(_, n)) => after_p7(turn, h, s, n),
@@ -56,6 +54,8 @@ impl PutStep {
         Call::Putting(item, next)
     }
 }
+
+// Each function below stands beside one row of the step table, so the two searches end in it and in no shared helper.
 
 // After a probe for an empty slot.
 fn after_p3(turn: Turn, t: Marker, h: Marker, s: Search, tag: u32, n: u32) -> PutStep

@@ -62,14 +62,11 @@ impl Call {
         }
     }
 
-    // Whether a call is in flight.
+    // From its begin to its answer.
     pub fn in_flight(self) -> bool
         ensures { result ≡ in_flight self }
     {
-        matches!(
-            self,
-            Call::Putting(..) | Call::Checking(..) | Call::Taking(_)
-        )
+        !matches!(self, Call::Idle | Call::Answered(_))
     }
 
     pub fn is_idle(self) -> bool

@@ -18,15 +18,16 @@ impl TakeStep {
     pub(crate) fn access(self, turn: Turn) -> Access
         ensures { result ≡ access_of (take_row (ring turn.config) turn.start self) }
     {
+        let Turn { config, .. } = turn;
         match self {
             Self::D1 => Access::Read(Place::Head),
             Self::D2(h, s) => Access::Read(Place::Slot(turn.probe(h, s))),
             Self::D3(_, _) => Access::Read(Place::Tail),
             Self::D4(_, _, _) => Access::Read(Place::Head),
-            Self::D5(_, t) => Access::Swap(Place::Tail, t.tag, turn.config.next(t.at)),
+            Self::D5(_, t) => Access::Swap(Place::Tail, t.tag, config.next(t.at)),
             Self::D6(found) => Access::Swap(Place::Slot(found.index), found.tag, 0),
             Self::D7(_, _) => Access::Read(Place::Tail),
-            Self::D8(h) => Access::Swap(Place::Head, h.tag, turn.config.next(h.at)),
+            Self::D8(h) => Access::Swap(Place::Head, h.tag, config.next(h.at)),
         }
     }
 
@@ -34,10 +35,11 @@ impl TakeStep {
     pub(crate) fn advanced(self, turn: Turn, got: Got) -> Call
         ensures { result ≡ led (take_row (ring turn.config) turn.start self) got (Call.Taking self) }
     {
+        let Turn { config, .. } = turn;
         let next = match (self, got) {
-            (Self::D1, Got::Pair(tag, n)) => Self::D2(turn.config.marker(tag, n), Search::Fresh),
+            (Self::D1, Got::Pair(tag, n)) => Self::D2(config.marker(tag, n), Search::Fresh),
             (Self::D2(h, s), Got::Pair(tag, n)) => after_d2(turn, h, s, tag, n),
-            (Self::D3(h, kept), Got::Pair(tag, n)) => Self::D4(h, kept, turn.config.marker(tag, n)),
+            (Self::D3(h, kept), Got::Pair(tag, n)) => Self::D4(h, kept, config.marker(tag, n)),
             (Self::D4(h, kept, t), Got::Pair(tag, _)) => after_d4(h, kept, t, tag),
             (Self::D5(found, _), Got::Said(_)) => Self::D6(found),
             (Self::D6(found), Got::Said(true)) => return Call::Answered(Answer::Item(found.item)),
@@ -49,6 +51,8 @@ impl TakeStep {
         Call::Taking(next)
     }
 }
+
+// Each function below stands beside one row of the step table, so the search ends in it and in no shared helper.
 
 // After a probe for an occupied slot.
 fn after_d2(turn: Turn, h: Marker, s: Search, tag: u32, item: u32) -> TakeStep
