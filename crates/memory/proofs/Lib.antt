@@ -1,4 +1,3 @@
-pub mod Rises
 pub mod Fronts
 pub mod Packs
 pub mod WordSlots
