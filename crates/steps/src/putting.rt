@@ -12,8 +12,8 @@ use super::config::Config;
 use super::kept::{KeptSlot, Marker};
 use super::put_step::PutStep;
 use super::search::Search;
-use super::searching::Turn;
 use super::tag::{is_same, raise};
+use super::turn::Turn;
 use memory::place::Place;
 
 impl PutStep {

@@ -8,8 +8,8 @@ use super::answer::Answer;
 use super::call::Call;
 use super::config::Config;
 use super::put_step::PutStep;
-use super::searching::Turn;
 use super::take_step::TakeStep;
+use super::turn::Turn;
 
 impl Call {
     // A put of an item that has made no step.

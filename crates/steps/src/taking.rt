@@ -9,9 +9,9 @@ use super::answer::Answer;
 use super::call::Call;
 use super::kept::{KeptItem, Marker};
 use super::search::Search;
-use super::searching::Turn;
 use super::tag::is_same;
 use super::take_step::TakeStep;
+use super::turn::Turn;
 use memory::place::Place;
 
 impl TakeStep {

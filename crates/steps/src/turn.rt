@@ -1,4 +1,4 @@
-// The probes of a search.
+// A thread's turn to make a step, and the probes of a search by it.
 ghost use Rattle.std.specs.Prelude.{◌≡◌};
 ghost use Rattle.steps.specs.Ring.{ring};
 ghost use Rattle.steps.specs.Probes.{place, probe, further};
@@ -7,7 +7,7 @@ use super::config::Config;
 use super::kept::Marker;
 use super::search::Search;
 
-// What a thread's turn brings to the step that is made in it.
+// The start number is the step's own.
 #[derive(Clone, Copy)]
 pub(crate) struct Turn {
     pub(crate) config: Config,
