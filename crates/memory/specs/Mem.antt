@@ -10,6 +10,10 @@ pub record Mem : Type 0 where
 abbrev pub empty : ℕ → Mem
 empty n = record { slots = replicate n (0, 0); head = (0, 0); tail = (0, 0) }
 
+-- slots and both markers
+abbrev pub with_markers : List (ℕ × ℕ) → ℕ × ℕ → ℕ × ℕ → Mem
+with_markers slots h t = record { slots = slots; head = h; tail = t }
+
 -- the slots are the first n pairs of a list
 abbrev pub front : ℕ → List (ℕ × ℕ) → ℕ × ℕ → ℕ × ℕ → Mem
-front n pairs h t = record { slots = take n pairs; head = h; tail = t }
+front n pairs h t = with_markers (take n pairs) h t

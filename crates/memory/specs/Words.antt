@@ -1,7 +1,8 @@
 -- Words as slots: a word holds the tag in its upper 32 bits and the item in the lower.
-use Rattle.std.specs.Prelude.{ℕ, ◌+◌, ◌*◌, ◌/◌, ◌%◌, ◌^◌, min, Bool, cond, ◌&&◌, List, ◌++◌, map, length, drop, replicate, Some, None, Option, nat_lt, slice_index, slice_set}
-use Rattle.memory.specs.declared.word.WordMemory.{WordMemory}
-use Rattle.memory.specs.Mem.{Mem, front}
+use Rattle.std.specs.Prelude.{ℕ, ◌+◌, ◌*◌, ◌/◌, ◌%◌, ◌^◌, min, Bool, cond, ◌&&◌, List, ◌++◌, map, length, take, drop, replicate, Some, None, Option, nat_lt, slice_index, slice_set}
+use Rattle.memory.specs.declared.marked.Marked.{Marked}
+use Rattle.memory.specs.declared.word.WordSlots.{WordSlots}
+use Rattle.memory.specs.Mem.{Mem, with_markers}
 use Rattle.memory.specs.Tags.{takes, raised}
 
 abbrev pub packed : ℕ × ℕ → ℕ
@@ -14,12 +15,16 @@ unpacked w = (w / 2 ^ 32, w % 2 ^ 32)
 abbrev pub used : List ℕ → ℕ
 used ws = min (length ws) 4096
 
+-- the slots that words mean
+abbrev pub word_pairs : List ℕ → List (ℕ × ℕ)
+word_pairs ws = take (used ws) (map unpacked ws)
+
 -- what words and markers mean
 abbrev pub words_mean : List ℕ → ℕ × ℕ → ℕ × ℕ → Mem
-words_mean ws h t = front (used ws) (map unpacked ws) h t
+words_mean ws h t = with_markers (word_pairs ws) h t
 
-abbrev pub word_meaning : WordMemory → Mem
-word_meaning s = words_mean s.words.now s.head s.tail
+abbrev pub word_meaning : Marked WordSlots → Mem
+word_meaning s = words_mean s.slots.words.now s.head s.tail
 
 -- zero in the first n words
 abbrev pub wiped : ℕ → List ℕ → List ℕ

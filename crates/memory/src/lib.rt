@@ -6,8 +6,10 @@ ghost use Rattle.memory.specs.Mem.{Mem};
 ghost use Rattle.memory.specs.Laws.{cleared, looked, agrees, swapped};
 
 pub mod array;
+pub mod marked;
 pub mod packing;
 pub mod place;
+pub mod slots;
 pub mod tag;
 pub mod word;
 mod words;

@@ -1,5 +1,5 @@
 // What a read or a swap names: a slot by its index from 0, or a marker.
-#[derive(Clone, Copy)]
+#[derive(Clone, Copy, Debug, PartialEq, Eq)]
 pub enum Place {
     Slot(usize),
     Head,

@@ -16,20 +16,15 @@ pub fn slots_in(words: &[u64]) -> usize
 pub fn wipe(words: &mut [u64])
     ensures { words.new ≡ wiped (used words.old) words.old }
 {
-    for i in 0..slots_in(words) {
-        words[i] = 0;
-    }
+    let used = slots_in(words);
+    words[..used].fill(0);
 }
 
 // The pair in a word; nothing where it is no slot.
 pub fn read_word(words: &[u64], i: usize) -> Option<(u32, u32)>
     ensures { result ≡ word_looked words.now i }
 {
-    if i < slots_in(words) {
-        Some(unpack(words[i]))
-    } else {
-        None
-    }
+    words[..slots_in(words)].get(i).copied().map(unpack)
 }
 
 // Swaps the number in a word; false, and nothing changes, where it is no slot or takes no such swap.
@@ -37,13 +32,12 @@ pub fn swap_word(words: &mut [u64], i: usize, expected: u32, new: u32) -> bool
     ensures answer { result ≡ word_agrees words.old i expected }
     ensures after { words.new ≡ words_swapped words.old i expected new }
 {
-    if i >= slots_in(words) {
+    let Some(mut pair) = read_word(words, i) else {
         return false;
+    };
+    let done = swap_pair(&mut pair, expected, new);
+    if done {
+        words[i] = pack(pair);
     }
-    let mut pair = unpack(words[i]);
-    if !swap_pair(&mut pair, expected, new) {
-        return false;
-    }
-    words[i] = pack(pair);
-    true
+    done
 }

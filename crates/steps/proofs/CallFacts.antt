@@ -1,9 +1,9 @@
 -- What a call keeps lies in the ring, and so does every access that it makes.
-use Rattle.std.proofs.Common.{ℕ, suc, ◌+◌, ◌%◌, ◌<◌, cond, eqb, ltb, leb, List, [], ◌∷◌, Some, None, Option, mod-lt, mul-le-mul_left, mul-suc, arith}
-use Rattle.std.proofs.lemmas.Bool.{ltb-true, cond_both}
+use Rattle.std.proofs.Common.{ℕ, suc, ◌<◌, eqb, List, [], ◌∷◌, Some, None, Option, mod-lt, mul-le-mul_left, mul-suc, arith}
+use Rattle.std.proofs.lemmas.Grind.{common_steps}
+use Rattle.std.proofs.lemmas.Bool.{cond_both}
 use Rattle.steps.specs.declared.access.Got.{Got}
 use Rattle.steps.specs.declared.access.Got.TheVariants.{Pair, Said}
-use Rattle.steps.specs.declared.answer.Answer.TheVariants.{Accepted, Full, Item, Empty}
 use Rattle.steps.specs.declared.call.Call.{Call}
 use Rattle.steps.specs.declared.call.Call.TheVariants.{Idle, Putting, Checking, Taking, Answered}
 use Rattle.steps.specs.declared.check_step.CheckStep.{CheckStep}
@@ -14,14 +14,14 @@ use Rattle.steps.specs.declared.kept.Marker.{Marker}
 use Rattle.steps.specs.declared.put_step.PutStep.{PutStep}
 use Rattle.steps.specs.declared.put_step.PutStep.TheVariants.{P1, P2, P3, P4, P5, P6, P7, P8, P9}
 use Rattle.steps.specs.declared.search.Search.{Search}
+use Rattle.steps.specs.declared.search.Search.TheVariants.{Fresh, Begun}
 use Rattle.steps.specs.declared.take_step.TakeStep.{TakeStep}
 use Rattle.steps.specs.declared.take_step.TakeStep.TheVariants.{D1, D2, D3, D4, D5, D6, D7, D8}
-use Rattle.steps.specs.Tags.{same_tag}
 use Rattle.steps.specs.Ring.{Ring, whole, position, marker, next, distance, segment_of}
 use Rattle.steps.specs.RingLaw.{Position}
-use Rattle.steps.specs.Probes.{fresh, place, probe, further}
+use Rattle.steps.specs.Probes.{place, probe, further}
 use Rattle.steps.specs.Rows.{led}
-use Rattle.steps.specs.PutTable.{put_row, P3_on, P4_by, P7_on, stored}
+use Rattle.steps.specs.PutTable.{put_row, P3_on, P4_by, P7_on}
 use Rattle.steps.specs.CheckTable.{check_row, C3_by}
 use Rattle.steps.specs.TakeTable.{take_row, D2_on, D4_by}
 use Rattle.steps.specs.Calls.{next_access, advanced}
@@ -78,9 +78,8 @@ module _ (q : Ring) where
 
   module _ (some_slots : 0 < q.k) (some_segments : 0 < q.n) where
     place_below : (r : ℕ) (s : Search) → place q r s < q.k
-    place_below r s = cond_both (eqb s.made 0) (r % q.k) (cond (ltb (s.last + 1) q.k) (s.last + 1) 0) (λ i. i < q.k)
-        (λ _. mod-lt r some_slots)
-        (λ _. cond_both (ltb (s.last + 1) q.k) (s.last + 1) 0 (λ i. i < q.k) (λ e. ltb-true (s.last + 1) q.k e) (λ _. some_slots))
+    place_below r Fresh = mod-lt r some_slots
+    place_below r (Begun m last) = grind (arith, common_steps)
 
     probe_below : (r : ℕ) (m : Marker) (s : Search) → At m → probe q r m s < whole q
     probe_below r m s h =
@@ -99,7 +98,7 @@ module _ (q : Ring) where
 
     P4_by_kept : (t h : Marker) (o : Option KeptSlot) → At t → At h → SlotKept o → PutKept (P4_by q t h o)
     P4_by_kept t h (Some slot) a b k = k
-    P4_by_kept t h None a b k = cond_both (eqb (next q t.at) h.at) (P7 h fresh) (P6 t) PutKept (λ _. b) (λ _. a)
+    P4_by_kept t h None a b k = grind (arith, common_steps)
 
     P7_on_kept : (h : Marker) (o : Option Search) → At h → PutKept (P7_on h o)
     P7_on_kept h (Some s) a = a
@@ -114,43 +113,41 @@ module _ (q : Ring) where
         (λ _. (k.0, k.1, probe_below r t s k.0))
         (λ _. P3_on_kept t h (further q r s) k.0 k.1)
     put_keeps r x (P3 t h s) (Said b) k = k
-    put_keeps r x (P4 t h o) (Pair u n) k = cond_both (same_tag u t.tag) (P4_by q t h o) P1 PutKept (λ _. P4_by_kept t h o k.0 k.1 k.2) (λ _. tt)
+    put_keeps r x (P4 t h o) (Pair u n) k = grind (arith, common_steps)
     put_keeps r x (P4 t h o) (Said b) k = k
     put_keeps r x (P5 slot) (Pair u n) k = k
-    put_keeps r x (P5 slot) (Said b) k = cond_both b (Checking x (stored slot) C1) (Putting x P1) Kept (λ _. (k, tt)) (λ _. tt)
+    put_keeps r x (P5 slot) (Said b) k = grind (arith, common_steps)
     put_keeps r x (P6 t) (Pair u n) k = k
     put_keeps r x (P6 t) (Said b) k = tt
-    put_keeps r x (P7 h s) (Pair u n) k = cond_both (eqb n 0) (P7_on h (further q r s)) (P8 h) PutKept (λ _. P7_on_kept h (further q r s) k) (λ _. k)
+    put_keeps r x (P7 h s) (Pair u n) k = grind (arith, common_steps)
     put_keeps r x (P7 h s) (Said b) k = k
-    put_keeps r x (P8 h) (Pair u n) k = cond_both (same_tag u h.tag) (Answered Full) (Putting x P1) Kept (λ _. tt) (λ _. tt)
+    put_keeps r x (P8 h) (Pair u n) k = grind (arith, common_steps)
     put_keeps r x (P8 h) (Said b) k = k
     put_keeps r x (P9 h) (Pair u n) k = k
     put_keeps r x (P9 h) (Said b) k = tt
 
     C3_by_kept : (x : ℕ) (slot : KeptSlot) (c : Marker) (a b : ℕ) → slot.index < whole q → At c → Kept (C3_by x slot c a b)
-    C3_by_kept x slot c a b i k = cond_both (eqb a 0) (Checking x slot (C4 c)) (cond (leb a b) (Answered Accepted) (Checking x slot C5)) Kept
-        (λ _. (i, k))
-        (λ _. cond_both (leb a b) (Answered Accepted) (Checking x slot C5) Kept (λ _. tt) (λ _. (i, tt)))
+    C3_by_kept x slot c a b i k = grind (arith, common_steps)
 
     check_keeps : (x : ℕ) (slot : KeptSlot) (s : CheckStep) (g : Got) → slot.index < whole q → CheckKept s → Kept (led (check_row q x slot s) g (Checking x slot s))
-    check_keeps x slot C1 (Pair u n) i k = cond_both (same_tag u slot.tag) (Checking x slot C2) (Answered Accepted) Kept (λ _. (i, tt)) (λ _. tt)
+    check_keeps x slot C1 (Pair u n) i k = grind (arith, common_steps)
     check_keeps x slot C1 (Said b) i k = (i, k)
     check_keeps x slot C2 (Pair u n) i k = (i, marker_kept u n)
     check_keeps x slot C2 (Said b) i k = (i, k)
     check_keeps x slot (C3 c) (Pair u n) i k = C3_by_kept x slot c (distance q c.at (segment_of q slot.index)) (distance q c.at (position q n)) i k
     check_keeps x slot (C3 c) (Said b) i k = (i, k)
     check_keeps x slot (C4 c) (Pair u n) i k = (i, k)
-    check_keeps x slot (C4 c) (Said b) i k = cond_both b (Answered Accepted) (Checking x slot C5) Kept (λ _. tt) (λ _. (i, tt))
+    check_keeps x slot (C4 c) (Said b) i k = grind (arith, common_steps)
     check_keeps x slot C5 (Pair u n) i k = (i, k)
-    check_keeps x slot C5 (Said b) i k = cond_both b (Putting x P1) (Answered Accepted) Kept (λ _. tt) (λ _. tt)
+    check_keeps x slot C5 (Said b) i k = grind (arith, common_steps)
 
     D2_on_kept : (h : Marker) (o : Option Search) → At h → TakeKept (D2_on h o)
     D2_on_kept h (Some s) a = a
     D2_on_kept h None a = (a, tt)
 
     D4_by_kept : (h : Marker) (o : Option KeptItem) (t : Marker) → At h → ItemKept o → At t → TakeKept (D4_by h o t)
-    D4_by_kept h (Some found) t a k b = cond_both (eqb t.at h.at) (D5 found t) (D6 found) TakeKept (λ _. (k, b)) (λ _. k)
-    D4_by_kept h None t a k b = cond_both (eqb t.at h.at) (D7 h t) (D8 h) TakeKept (λ _. (a, b)) (λ _. a)
+    D4_by_kept h (Some found) t a k b = grind (arith, common_steps)
+    D4_by_kept h None t a k b = grind (arith, common_steps)
 
     take_keeps : (r : ℕ) (s : TakeStep) (g : Got) → TakeKept s → Kept (led (take_row q r s) g (Taking s))
     take_keeps r D1 (Pair u n) k = marker_kept u n
@@ -161,13 +158,13 @@ module _ (q : Ring) where
     take_keeps r (D2 h s) (Said b) k = k
     take_keeps r (D3 h o) (Pair u n) k = (k.0, k.1, marker_kept u n)
     take_keeps r (D3 h o) (Said b) k = k
-    take_keeps r (D4 h o t) (Pair u n) k = cond_both (same_tag u h.tag) (D4_by h o t) D1 TakeKept (λ _. D4_by_kept h o t k.0 k.1 k.2) (λ _. tt)
+    take_keeps r (D4 h o t) (Pair u n) k = grind (arith, common_steps)
     take_keeps r (D4 h o t) (Said b) k = k
     take_keeps r (D5 found t) (Pair u n) k = k
     take_keeps r (D5 found t) (Said b) k = k.0
     take_keeps r (D6 found) (Pair u n) k = k
-    take_keeps r (D6 found) (Said b) k = cond_both b (Answered (Item found.item)) (Taking D1) Kept (λ _. tt) (λ _. tt)
-    take_keeps r (D7 h t) (Pair u n) k = cond_both (same_tag u t.tag) (Answered Empty) (Taking (D8 h)) Kept (λ _. tt) (λ _. k.0)
+    take_keeps r (D6 found) (Said b) k = grind (arith, common_steps)
+    take_keeps r (D7 h t) (Pair u n) k = grind (arith, common_steps)
     take_keeps r (D7 h t) (Said b) k = k
     take_keeps r (D8 h) (Pair u n) k = k
     take_keeps r (D8 h) (Said b) k = tt

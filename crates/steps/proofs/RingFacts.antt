@@ -1,8 +1,9 @@
 -- The segments stand in a ring: positions as multiples of k, and next as the multiple after.
-use Rattle.std.proofs.Common.{◌≡◌, ℕ, zero, suc, ◌+◌, ◌-◌, ◌*◌, ◌/◌, ◌%◌, ◌<◌, ◌≤◌, eqb, ltb, ◌⊎◌, sym, refl, ap, ◌∙◌, subst, inl, inr, ⊎_elim, mod-lt, mod-eq_of_lt, mul-pos, mul-zero, mul-suc, arith}
+use Rattle.std.proofs.Common.{◌≡◌, ℕ, zero, suc, ◌+◌, ◌-◌, ◌*◌, ◌/◌, ◌%◌, ◌<◌, ◌≤◌, ◌⊎◌, sym, refl, ap, ◌∙◌, subst, inl, inr, ⊎_elim, mod-lt, mod-eq_of_lt, mul-pos, mul-zero, mul-suc, arith}
 use native.Mathlib.Nat.{mul-lt-mul_of_pos_left, lt_of_mul-lt-mul_left, mod_self, add-mod_left, div-add-mod, mul-mod_right, mul-add-mod_self_left}
-use Rattle.std.proofs.lemmas.Bool.{and_parts, and_from, ltb-true, eqb-true, lt-ltb, le-ltb, eq-eqb, cond-true, cond-false, cond_both, cases_lt}
-use Rattle.steps.specs.Ring.{Ring, whole, is_position, next, distance, segment_of}
+use Rattle.std.proofs.lemmas.Grind.{common_steps}
+use Rattle.std.proofs.lemmas.Bool.{cases_lt}
+use Rattle.steps.specs.Ring.{Ring, whole, next, distance, segment_of}
 use Rattle.steps.specs.RingLaw.{onwards, Position, RingLaw}
 
 -- the position of segment m
@@ -16,10 +17,10 @@ module _ (q : Ring) (some_slots : 0 < q.k) (some_segments : 0 < q.n) where
   some_whole = mul-pos some_slots some_segments
 
   pub position_below : (p : ℕ) → Position q p → p < whole q
-  position_below p h = ltb-true p (whole q) (and_parts (ltb p (whole q)) (eqb (p % q.k) 0) h).0
+  position_below p h = grind (arith, common_steps)
 
   multiple : (p : ℕ) → Position q p → p % q.k ≡ 0
-  multiple p h = eqb-true (p % q.k) 0 (and_parts (ltb p (whole q)) (eqb (p % q.k) 0) h).1
+  multiple p h = grind (arith, common_steps)
 
   pub segment : (p : ℕ) → Position q p → Segment q p
   segment p h =
@@ -31,9 +32,9 @@ module _ (q : Ring) (some_slots : 0 < q.k) (some_segments : 0 < q.n) where
       }
 
   pub is_segment : (m : ℕ) → m < q.n → Position q (q.k * m)
-  is_segment m h = and_from (ltb (q.k * m) (whole q)) (eqb ((q.k * m) % q.k) 0)
-      (lt-ltb (q.k * m) (whole q) (mul-lt-mul_of_pos_left h some_slots))
-      (eq-eqb ((q.k * m) % q.k) 0 (mul-mod_right q.k m))
+  is_segment m h =
+      let below : q.k * m < whole q = mul-lt-mul_of_pos_left h some_slots in
+      grind (arith, common_steps, mul-mod_right q.k m)
 
   first_is : Position q 0
   first_is = subst (Position q) (mul-zero q.k) (is_segment 0 some_segments)
@@ -42,13 +43,13 @@ module _ (q : Ring) (some_slots : 0 < q.k) (some_segments : 0 < q.n) where
   next_below m h =
       let more = mul-suc q.k m in
       let lt : q.k * suc m < whole q = mul-lt-mul_of_pos_left h some_slots in
-      cond-true (ltb (q.k * m + q.k) (whole q)) (q.k * m + q.k) 0 (lt-ltb (q.k * m + q.k) (whole q) (omega (arith, lt, more))) ∙ sym more
+      grind (arith, common_steps, more)
 
   next_last : (m : ℕ) → suc m ≡ q.n → next q (q.k * m) ≡ 0
   next_last m h =
       let more = mul-suc q.k m in
       let end : q.k * suc m ≡ whole q = ap (λ i. q.k * i) h in
-      cond-false (ltb (q.k * m + q.k) (whole q)) (q.k * m + q.k) 0 (le-ltb (q.k * m + q.k) (whole q) (omega (arith, end, more)))
+      grind (arith, common_steps, more)
 
   -- i times next from segment m, once round at most
   reach : (i m j : ℕ) → m < q.n → j < q.n → i ≤ q.n → (m + i ≡ j) ⊎ (m + i ≡ j + q.n) → onwards q i (q.k * m) ≡ q.k * j
@@ -106,7 +107,7 @@ module _ (q : Ring) (some_slots : 0 < q.k) (some_segments : 0 < q.n) where
 
   pub ring_law : RingLaw q
   ring_law = record {
-    kept = λ p. cond_both (is_position q p) p 0 (Position q) (λ e. e) (λ _. first_is);
+    kept = λ p. grind (arith, common_steps, first_is);
     moves = moves;
     stays = λ p h. let s = segment p h in subst (λ i. Position q (next q i)) (sym s.at) (stays_at s.m s.below);
     round = λ p h. let s = segment p h in ap (onwards q q.n) s.at ∙ (reach q.n s.m s.m s.below s.below (omega arith) (inr refl) ∙ sym s.at);

@@ -1,5 +1,5 @@
 -- Which configurations there are. The questions are asked in order, and the first that is answered no is the refusal.
-use Rattle.std.specs.Prelude.{◌≡◌, ℕ, Bool, cond, ◌&&◌, List, [], ◌∷◌, Some, None, Ok, Err, Option, Result, nat_le}
+use Rattle.std.specs.Prelude.{◌≡◌, ℕ, Bool, cond, ◌&&◌, List, [], ◌∷◌, Some, None, Ok, Err, Option, Result, nat_le, decimal}
 use Rattle.steps.specs.declared.config.Config.{Config}
 use Rattle.steps.specs.declared.config_refusal.ConfigRefusal.{ConfigRefusal}
 use Rattle.steps.specs.declared.config_refusal.ConfigRefusal.TheVariants.{SegmentSize, Segments, Threads}
@@ -8,6 +8,9 @@ abbrev pub refusal_number : ConfigRefusal → ℕ
 refusal_number SegmentSize = 1
 refusal_number Segments = 2
 refusal_number Threads = 3
+
+abbrev pub refusal_text : ConfigRefusal → List ℕ
+refusal_text refusal = decimal (refusal_number refusal)
 
 abbrev pub within : ℕ → ℕ → ℕ → Bool
 within low high x = nat_le low x && nat_le x high
@@ -23,5 +26,5 @@ first_no (q ∷ qs) = cond q.0 (first_no qs) (Some q.1)
 
 -- a configuration with these three numbers where every question is answered yes, else the refusal
 abbrev pub Made : ℕ → ℕ → ℕ → Result Config ConfigRefusal → Type 0
-Made k n t (Ok c) = (first_no (config_questions k n t) ≡ None) × ((c.k ≡ k) × ((c.segments ≡ n) × (c.threads ≡ t)))
+Made k n t (Ok c) = (first_no (config_questions k n t) ≡ None) × ((c.k.number ≡ k) × ((c.segments.number ≡ n) × (c.threads.number ≡ t)))
 Made k n t (Err e) = first_no (config_questions k n t) ≡ Some (refusal_number e)

@@ -9,7 +9,7 @@ pub record Ring : Type 0 where
   pub n : ℕ
 
 abbrev pub ring : Config → Ring
-ring c = record { k = c.k; n = c.segments }
+ring c = record { k = c.k.number; n = c.segments.number }
 
 -- the slots of all segments
 abbrev pub whole : Ring → ℕ

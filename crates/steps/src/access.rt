@@ -2,7 +2,7 @@
 use memory::place::Place;
 
 // A swap has the tag that it expects and the number that it writes.
-#[derive(Clone, Copy)]
+#[derive(Clone, Copy, Debug, PartialEq, Eq)]
 pub enum Access {
     Read(Place),
     Swap(Place, u32, u32),
@@ -10,7 +10,7 @@ pub enum Access {
 
 // A read returns the tag and the number that stand at the place, two zeros where there is no such place;
 // a swap says whether it was done.
-#[derive(Clone, Copy)]
+#[derive(Clone, Copy, Debug, PartialEq, Eq)]
 pub enum Got {
     Pair(u32, u32),
     Said(bool),

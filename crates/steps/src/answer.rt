@@ -1,9 +1,25 @@
 // The answer of a call: of a put accepted or full, of a take an item or empty.
+ghost use Rattle.std.specs.Prelude.{◌≡◌};
+ghost use Rattle.steps.specs.Answers.{answer_number};
 
-#[derive(Clone, Copy)]
+#[derive(Clone, Copy, Debug, PartialEq, Eq)]
 pub enum Answer {
     Accepted,
     Full,
     Item(u32),
     Empty,
+}
+
+// The number of each answer, with the item that it carries, else 0.
+impl From<Answer> for (u32, u32) {
+    ghost from_gives = { λ answer n. n ≡ answer_number answer };
+
+    fn from(answer: Answer) -> (u32, u32) {
+        match answer {
+            Answer::Accepted => (3, 0),
+            Answer::Full => (4, 0),
+            Answer::Item(item) => (5, item),
+            Answer::Empty => (6, 0),
+        }
+    }
 }

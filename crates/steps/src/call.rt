@@ -6,7 +6,7 @@ use super::put_step::PutStep;
 use super::take_step::TakeStep;
 
 // A put has its item; once that stands in a slot, the slot too, with the tag that it has there.
-#[derive(Clone, Copy)]
+#[derive(Clone, Copy, Debug, PartialEq, Eq)]
 pub enum Call {
     Idle,
     Putting(u32, PutStep),

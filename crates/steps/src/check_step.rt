@@ -2,7 +2,7 @@
 use super::kept::Marker;
 
 // c is the kept head.
-#[derive(Clone, Copy)]
+#[derive(Clone, Copy, Debug, PartialEq, Eq)]
 pub enum CheckStep {
     // read the slot
     C1,

@@ -4,7 +4,6 @@
 
 pub mod access;
 pub mod answer;
-pub mod answer_number;
 pub mod call;
 pub mod check_step;
 mod checking;
@@ -14,11 +13,10 @@ pub mod kept;
 pub mod law;
 pub mod put_step;
 mod putting;
-pub mod refusal_number;
 mod ring;
 pub mod search;
-mod searching;
 pub mod stepping;
 mod tag;
 pub mod take_step;
 mod taking;
+mod turn;

@@ -3,7 +3,7 @@ use super::kept::{KeptSlot, Marker};
 use super::search::Search;
 
 // t is the kept tail, h the kept head.
-#[derive(Clone, Copy)]
+#[derive(Clone, Copy, Debug, PartialEq, Eq)]
 pub enum PutStep {
     // read tail
     P1,

@@ -1,8 +1,8 @@
 // A search through a segment, one probe a step.
 
-// How many probes were made, and the place of the last of them.
-#[derive(Clone, Copy)]
-pub struct Search {
-    pub made: u32,
-    pub last: u32,
+// Once it has begun: how many probes were made, and the place of the last of them.
+#[derive(Clone, Copy, Debug, PartialEq, Eq)]
+pub enum Search {
+    Fresh,
+    Begun { made: u32, last: u32 },
 }

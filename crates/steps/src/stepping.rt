@@ -9,6 +9,7 @@ use super::call::Call;
 use super::config::Config;
 use super::put_step::PutStep;
 use super::take_step::TakeStep;
+use super::turn::Turn;
 
 impl Call {
     // A put of an item that has made no step.
@@ -29,10 +30,11 @@ impl Call {
     pub fn access(self, config: Config, start: u32) -> Option<Access>
         ensures { result ≡ next_access (ring config) start self }
     {
+        let turn = Turn { config, start };
         match self {
-            Call::Putting(item, step) => Some(step.access(config, start, item)),
+            Call::Putting(item, step) => Some(step.access(turn, item)),
             Call::Checking(item, slot, step) => Some(step.access(config, item, slot)),
-            Call::Taking(step) => Some(step.access(config, start)),
+            Call::Taking(step) => Some(step.access(turn)),
             Call::Idle | Call::Answered(_) => None,
         }
     }
@@ -41,10 +43,11 @@ impl Call {
     pub fn advance(&mut self, config: Config, start: u32, got: Got)
         ensures { self.new ≡ advanced (ring config) start self.old got }
     {
+        let turn = Turn { config, start };
         *self = match *self {
-            Call::Putting(item, step) => step.advanced(config, start, item, got),
+            Call::Putting(item, step) => step.advanced(turn, item, got),
             Call::Checking(item, slot, step) => step.advanced(config, item, slot, got),
-            Call::Taking(step) => step.advanced(config, start, got),
+            Call::Taking(step) => step.advanced(turn, got),
             same => same,
         };
     }
@@ -59,22 +62,16 @@ impl Call {
         }
     }
 
-    // Whether a call is in flight.
+    // From its begin to its answer.
     pub fn in_flight(self) -> bool
         ensures { result ≡ in_flight self }
     {
-        match self {
-            Call::Putting(_, _) | Call::Checking(_, _, _) | Call::Taking(_) => true,
-            Call::Idle | Call::Answered(_) => false,
-        }
+        !matches!(self, Call::Idle | Call::Answered(_))
     }
 
     pub fn is_idle(self) -> bool
         ensures { result ≡ idle self }
     {
-        match self {
-            Call::Idle => true,
-            _ => false,
-        }
+        matches!(self, Call::Idle)
     }
 }

@@ -9,6 +9,7 @@ pub fn raise(tag: u32) -> u32
     tag.wrapping_add(1)
 }
 
+// Named, since a kept marker counts as unchanged by its tag alone, and that rule stands here and in `same_tag` only.
 pub fn is_same(tag: u32, other: u32) -> bool
     ensures { result ≡ same_tag tag other }
 {

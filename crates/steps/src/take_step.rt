@@ -3,7 +3,7 @@ use super::kept::{KeptItem, Marker};
 use super::search::Search;
 
 // h is the kept head, t the kept tail.
-#[derive(Clone, Copy)]
+#[derive(Clone, Copy, Debug, PartialEq, Eq)]
 pub enum TakeStep {
     // read head
     D1,

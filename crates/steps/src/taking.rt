@@ -7,20 +7,21 @@ ghost use Rattle.steps.specs.TakeTable.{take_row, after_D2, after_D4, after_D7};
 use super::access::{Access, Got};
 use super::answer::Answer;
 use super::call::Call;
-use super::config::Config;
 use super::kept::{KeptItem, Marker};
 use super::search::Search;
 use super::tag::is_same;
 use super::take_step::TakeStep;
+use super::turn::Turn;
 use memory::place::Place;
 
 impl TakeStep {
-    pub(crate) fn access(self, config: Config, start: u32) -> Access
-        ensures { result ≡ access_of (take_row (ring config) start self) }
+    pub(crate) fn access(self, turn: Turn) -> Access
+        ensures { result ≡ access_of (take_row (ring turn.config) turn.start self) }
     {
+        let Turn { config, .. } = turn;
         match self {
             Self::D1 => Access::Read(Place::Head),
-            Self::D2(h, s) => Access::Read(Place::Slot(s.probe(config, start, h))),
+            Self::D2(h, s) => Access::Read(Place::Slot(turn.probe(h, s))),
             Self::D3(_, _) => Access::Read(Place::Tail),
             Self::D4(_, _, _) => Access::Read(Place::Head),
             Self::D5(_, t) => Access::Swap(Place::Tail, t.tag, config.next(t.at)),
@@ -31,12 +32,13 @@ impl TakeStep {
     }
 
     // Where the step leads by what its access returned.
-    pub(crate) fn advanced(self, config: Config, start: u32, got: Got) -> Call
-        ensures { result ≡ led (take_row (ring config) start self) got (Call.Taking self) }
+    pub(crate) fn advanced(self, turn: Turn, got: Got) -> Call
+        ensures { result ≡ led (take_row (ring turn.config) turn.start self) got (Call.Taking self) }
     {
+        let Turn { config, .. } = turn;
         let next = match (self, got) {
-            (Self::D1, Got::Pair(tag, n)) => Self::D2(config.marker(tag, n), Search::new()),
-            (Self::D2(h, s), Got::Pair(tag, n)) => after_d2(config, start, h, s, tag, n),
+            (Self::D1, Got::Pair(tag, n)) => Self::D2(config.marker(tag, n), Search::Fresh),
+            (Self::D2(h, s), Got::Pair(tag, n)) => after_d2(turn, h, s, tag, n),
             (Self::D3(h, kept), Got::Pair(tag, n)) => Self::D4(h, kept, config.marker(tag, n)),
             (Self::D4(h, kept, t), Got::Pair(tag, _)) => after_d4(h, kept, t, tag),
             (Self::D5(found, _), Got::Said(_)) => Self::D6(found),
@@ -50,15 +52,17 @@ impl TakeStep {
     }
 }
 
+// Each function below stands beside one row of the step table, so the search ends in it and in no shared helper.
+
 // After a probe for an occupied slot.
-fn after_d2(config: Config, start: u32, h: Marker, s: Search, tag: u32, item: u32) -> TakeStep
-    ensures { result ≡ after_D2 (ring config) start h s tag item }
+fn after_d2(turn: Turn, h: Marker, s: Search, tag: u32, item: u32) -> TakeStep
+    ensures { result ≡ after_D2 (ring turn.config) turn.start h s tag item }
 {
     if item != 0 {
-        let index = s.probe(config, start, h);
+        let index = turn.probe(h, s);
         return TakeStep::D3(h, Some(KeptItem { index, tag, item }));
     }
-    match s.further(config, start) {
+    match turn.further(s) {
         Some(further) => TakeStep::D2(h, further),
         None => TakeStep::D3(h, None),
     }
