@@ -18,7 +18,7 @@ enough_slots w = nat_le (whole (ring w.rig.config)) (length w.memory.slots)
 
 -- is the thread below the thread count?
 abbrev pub known : State → ℕ → Bool
-known r t = nat_lt t r.config.threads
+known r t = nat_lt t r.config.threads.number
 
 -- are there entries for this begin, for its answer, and for the answers of the calls in flight?
 abbrev pub enough_entries : World → Bool

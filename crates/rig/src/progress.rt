@@ -21,7 +21,7 @@ impl From<Progress> for (u32, u32) {
         match progress {
             Progress::Flat => (0, 0),
             Progress::Going => (1, 0),
-            Progress::Ended(answer) => answer.number(),
+            Progress::Ended(answer) => <(u32, u32)>::from(answer),
         }
     }
 }

@@ -17,7 +17,11 @@ use Rattle.steps.specs.declared.answer.Answer.{Answer}
 use Rattle.steps.specs.declared.config.Config.{Config}
 
 abbrev pub smallest : Config
-smallest = record { k = 1; segments = 2; threads = 1; some_slots = lit≤ tt; few_slots = lit≤ tt; two_segments = lit≤ tt; few_segments = lit≤ tt; some_threads = lit≤ tt; few_threads = lit≤ tt }
+smallest = record {
+  k = record { number = 1; least = lit≤ tt; most = lit≤ tt };
+  segments = record { number = 2; least = lit≤ tt; most = lit≤ tt };
+  threads = record { number = 1; least = lit≤ tt; most = lit≤ tt };
+}
 
 -- newly opened, with two slots and sixteen entries
 abbrev pub opened : World
