@@ -1,5 +1,4 @@
 pub mod Cuts
-pub mod Words
 pub mod SoFar
 pub mod Inputs
 pub mod Reports

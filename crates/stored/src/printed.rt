@@ -28,10 +28,7 @@ impl fmt::Display for Report {
             verdict,
             replay,
         } = *self;
-        write!(
-            f,
-            "events={events}\nverdict={verdict}\nreplay={replay}\n"
-        )
+        write!(f, "events={events}\nverdict={verdict}\nreplay={replay}\n")
     }
 }
 

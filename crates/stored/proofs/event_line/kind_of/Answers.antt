@@ -1,7 +1,5 @@
-use Rattle.std.proofs.Common.{◌≡◌, ℕ, ◌<◌, List, ◌++◌, arith}
-use Rattle.history.specs.declared.event.Kind.{Kind}
+use Rattle.std.proofs.Common.{arith}
 use Rattle.history.specs.declared.event.Kind.TheVariants.{PutBegun, TakeBegun, Accepted, Full, HandedOut, Empty}
-use Rattle.stored.specs.Format.{word}
 use Rattle.stored.proofs.event_line.kind_of.Goals as goal
 
 -- every kind was tried
