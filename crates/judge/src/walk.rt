@@ -42,11 +42,12 @@ impl Judging<'_> {
         ensures { First self.now.history.now i result }
     {
         let oldest = self.seen.oldest;
-        for (ahead, event) in self.history[oldest..i].iter().enumerate() {
-            if event.kind == Kind::Accepted && !self.rows[event.item as usize - 1].handed {
-                return oldest + ahead;
-            }
+        let held = self.history[oldest..i].iter().position(|event| {
+            event.kind == Kind::Accepted && !self.rows[event.item as usize - 1].handed
+        });
+        match held {
+            Some(ahead) => oldest + ahead,
+            None => i,
         }
-        i
     }
 }

@@ -1,23 +1,19 @@
-use Rattle.std.proofs.Common.{rules, arith, below_more}
-use Rattle.judge.proofs.Looking.{look_place, look_held, look_handed, look_other}
+use Rattle.std.proofs.Common.{rules}
+use borrow.Author.Tests.{tests}
+use Rattle.std.proofs.lemmas.Iterator.{YieldsList-from_slice, IsFirst-from_position}
+use Rattle.std.proofs.lemmas.Iterator.Adapters.{serves_from_places}
+use Rattle.history.specs.declared.event.Event.{Event}
+use Rattle.judge.proofs.Looking.{Held, NotHeld, look_place, look_found, look_none}
 use Rattle.judge.proofs.judging.Judging.first_held.Goals as goal
-use Rattle.judge.proofs.judging.Judging.first_held.Goals.{else-eq-via-then-eq+else-not-self-event, else-eq-via-else-eq}
 
-pub overflow_sub-event : goal.overflow_sub-event
-overflow_sub-event c = (look_place c.requires c.loop-ahead.ahead (omega arith) (search rules)).0
+pub position-held-requires-clause-callable : goal.position-held-requires-clause-callable
+position-held-requires-clause-callable c = serves_from_places (YieldsList-from_slice _ c.iter.ensures.rest) (λ x q k. search rules) (λ x k lt e. let p = look_place c.requires k x.now lt e in search rules)
 
-pub bounds-self-event : goal.bounds-self-event
-bounds-self-event c = (look_place c.requires c.loop-ahead.ahead (omega arith) (search rules)).1
+pub returns-in-Some : goal.returns-in-Some
+returns-in-Some c =
+    let f = IsFirst-from_position {B = Event} _ _ _ (Held c.args.self.now.rows.now) (NotHeld c.args.self.now.rows.now) c.in-Some.ensures.ran (YieldsList-from_slice _ c.iter.ensures.rest) (λ x q k. search (rules, tests)) (λ x q k. search (rules, tests)) in
+    look_found c.requires c.in-Some.ahead f.0 f.1 f.2
 
-pub returns-then-not-self-event : goal.returns-then-not-self-event
-returns-then-not-self-event c = record {
-  le = omega arith;
-  none_older = c.loop-ahead.invariant;
-  holds_there = λ _. look_held c.requires c.loop-ahead.ahead (omega arith) (search rules) c.if-not-self-event.true;
-}
-
-pub loop-ahead-preserved : goal.loop-ahead-preserved
-loop-ahead-preserved c = λ j lt. below_more _ _ c.loop-ahead.invariant (elim c.else-eq.branch [
-  | else-eq-via-then-eq+else-not-self-event w ↦ look_handed c.requires c.loop-ahead.ahead (omega arith) w.if-not-self-event.false
-  | else-eq-via-else-eq w ↦ look_other c.requires c.loop-ahead.ahead (omega arith) (search rules)
-]) j (omega arith)
+pub returns-in-None : goal.returns-in-None
+returns-in-None c = look_none c.requires
+    (IsFirst-from_position {B = Event} _ _ _ (Held c.args.self.now.rows.now) (NotHeld c.args.self.now.rows.now) c.in-None.ensures.ran (YieldsList-from_slice _ c.iter.ensures.rest) (λ x q k. search (rules, tests)) (λ x q k. search (rules, tests)))
