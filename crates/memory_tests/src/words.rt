@@ -9,7 +9,7 @@ use std::test::Fail;
 fn the_tag_is_the_upper_half(rt: HostRuntime) {
     assert_eq!(rt; pack((1, 7)), 0x0000_0001_0000_0007);
     assert_eq!(rt; pack((4_294_967_295, 0)), 0xffff_ffff_0000_0000);
-    assert!(rt; unpack(0x0000_0002_ffff_ffff) == (2, 4_294_967_295));
+    assert_eq!(rt; unpack(0x0000_0002_ffff_ffff), (2, 4_294_967_295));
 }
 
 #[test]
@@ -21,7 +21,7 @@ fn a_tag_at_its_ceiling_stays(rt: HostRuntime) {
     assert!(rt; memory.swap(Place::Slot(1), 4_294_967_294, 9));
     assert!(rt; !memory.swap(Place::Slot(1), 4_294_967_295, 10));
     drop(memory);
-    assert!(rt; words == [0xffff_ffff_0000_0007, 0xffff_ffff_0000_0009]);
+    assert_eq!(rt; words, [0xffff_ffff_0000_0007, 0xffff_ffff_0000_0009]);
 }
 
 // The words behind the first 4,096 are no slots, and a clear leaves them.
