@@ -36,7 +36,7 @@ fn is_formed(history: &[Event], i: usize, threads: &LastEvents, begun: usize) ->
     }
 }
 
-// The number of puts begun in a well-formed history, or the first event that is not well formed.
+// The number of puts begun in a well-formed history, or the first event that is not well formed: its position is the whole error, so no enum of one case.
 pub fn puts_begun(history: &[Event]) -> Result<usize, usize>
     ensures { Read history.now result }
 {

@@ -38,20 +38,24 @@ pub fn told(heap: Global, text: &str) -> Result<Vec<Event>, Fail> {
     Ok(events)
 }
 
+const EMPTY_TAKE: [Event; 2] = [
+    Event {
+        kind: Kind::TakeBegun,
+        thread: 0,
+        item: 0,
+    },
+    Event {
+        kind: Kind::Empty,
+        thread: 0,
+        item: 0,
+    },
+];
+
 // So many takes in turn, each answered empty, and one more begun where the number of events is odd.
 pub fn empty_takes(heap: Global, length: usize) -> Result<Vec<Event>, Fail> {
-    let mut events = Vec::new(heap);
-    for i in 0..length {
-        let kind = if i % 2 == 0 {
-            Kind::TakeBegun
-        } else {
-            Kind::Empty
-        };
-        events.push(Event {
-            kind,
-            thread: 0,
-            item: 0,
-        })?;
+    let mut events = EMPTY_TAKE.repeat(heap, length / 2)?;
+    if length % 2 == 1 {
+        events.push(EMPTY_TAKE[0])?;
     }
     Ok(events)
 }

@@ -6,7 +6,7 @@ use super::marked::Marked;
 use super::slots::Slots;
 use super::tag::swap_pair;
 
-// The first `count` of the pairs are the slots.
+// The first `count` of the pairs are the slots. No Vec, but an array with a count beside it: a memory takes nothing from the heap.
 #[derive(Drop)]
 pub struct ArraySlots {
     pairs: [(u32, u32); 64],

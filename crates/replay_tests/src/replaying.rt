@@ -54,16 +54,12 @@ fn questions_are_asked_in_order(rt: HostRuntime) {
     assert_eq!(rt; rows, [7]);
 }
 
-// Empty takes, as many as make this number of events.
-fn empty_takes(heap: Global, events: u32) -> Result<Vec<Event>, AllocError> {
-    let mut history = Vec::new(heap);
-    for i in 0..events {
-        let kind = if i % 2 == 0 {
-            Kind::TakeBegun
-        } else {
-            Kind::Empty
-        };
-        history.push(event(kind, 0, 0))?;
+// Empty takes, as many as make this number of events. A test crate lends nothing to another, so the judge's tests have their own.
+fn empty_takes(heap: Global, events: usize) -> Result<Vec<Event>, AllocError> {
+    let take = [event(Kind::TakeBegun, 0, 0), event(Kind::Empty, 0, 0)];
+    let mut history = take.repeat(heap, events / 2)?;
+    if events % 2 == 1 {
+        history.push(take[0])?;
     }
     Ok(history)
 }

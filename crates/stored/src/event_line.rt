@@ -40,7 +40,7 @@ fn kind_of<'a>(line: &Line<'a>) -> Option<(Kind, &'a [u8])>
     None
 }
 
-// A thread and an item, with a colon between them.
+// A thread and an item, with a colon between them. Each is taken by let .. else, a rule of the project, so that its refusal stands beside it.
 fn pair(line: &Line, bytes: &[u8]) -> Result<(u32, u32), BadLine>
     ensures { NumbersRead Kind.PutBegun bytes.now line.now.number result }
 {
