@@ -50,6 +50,7 @@ impl Slots for ArraySlots {
     }
 
     fn swap(&mut self, index: usize, expected: u32, new: u32) -> bool {
+        // By index, since a slice of a field cannot be lent mutably (`get_mut`) where the struct has ghost fields.
         index < self.count && swap_pair(&mut self.pairs[index], expected, new)
     }
 }

@@ -1,4 +1,4 @@
-// A pair in a word of 64 bits: the tag in the upper 32, the number in the lower.
+// A pair in a word of 64 bits: the tag in the upper 32, the number in the lower. By shifts and masks, so that the layout shows.
 ghost use Rattle.std.specs.Prelude.{◌≡◌};
 ghost use Rattle.memory.specs.Words.{packed, unpacked};
 

@@ -1,4 +1,4 @@
-// A store of slots, without the markers of a memory.
+// A store of slots, without the markers of a memory. Pairs are plain, as a memory's read answers them.
 ghost use Rattle.std.specs.Prelude.{◌≡◌, ℕ, List, length, replicate};
 ghost use Rattle.memory.specs.Laws.{slot_looked, slot_agrees, slots_swapped};
 

@@ -1,4 +1,5 @@
 // Words as slots: up to 4,096 of those lent are slots, and the words behind them are neither read nor written.
+// Functions of the words alone, since the laws do not speak of the words behind the last slot and these contracts do.
 ghost use Rattle.std.specs.Prelude.{◌≡◌};
 ghost use Rattle.memory.specs.Words.{used, wiped, word_looked, word_agrees, words_swapped};
 

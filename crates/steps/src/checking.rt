@@ -14,6 +14,7 @@ use super::put_step::PutStep;
 use super::tag::is_same;
 use memory::place::Place;
 
+// Item and slot stay two arguments, as `Call::Checking` and the rows of the step table have them.
 impl CheckStep {
     pub(crate) fn access(self, config: Config, item: u32, slot: KeptSlot) -> Access
         ensures { result ≡ access_of (check_row (ring config) item slot self) }

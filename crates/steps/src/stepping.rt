@@ -39,7 +39,7 @@ impl Call {
         }
     }
 
-    // Moves on by what the access of this step returned.
+    // Moves on by what the access of this step returned. The state is matched in place, as the step tables are read.
     pub fn advance(&mut self, config: Config, start: u32, got: Got)
         ensures { self.new ≡ advanced (ring config) start self.old got }
     {
