@@ -3,7 +3,7 @@ use history::event::{Event, Kind};
 use std::alloc::Global;
 use std::test::Fail;
 
-// The letters: put begun, take begun, accepted, full, out, empty.
+// The letters: put begun, take begun, accepted, full, out, empty. No TryFrom, since neither type is this crate's.
 fn kind(letter: u8) -> Result<Kind, Fail> {
     match letter {
         b'p' => Ok(Kind::PutBegun),

@@ -11,10 +11,10 @@ pub fn perform<M: Memory>(memory: &mut M, access: Access) -> Got
     ensures after { M.meaning memory.new ≡ left_by (M.meaning memory.old) access }
 {
     match access {
-        Access::Read(at) => match memory.read(at) {
-            Some((tag, number)) => Got::Pair(tag, number),
-            None => Got::Pair(0, 0),
-        },
+        Access::Read(at) => {
+            let (tag, number) = memory.read(at).unwrap_or((0, 0));
+            Got::Pair(tag, number)
+        }
         Access::Swap(at, expected, new) => Got::Said(memory.swap(at, expected, new)),
     }
 }

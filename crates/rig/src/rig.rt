@@ -11,6 +11,7 @@ mod flights;
 mod opening;
 mod stepping;
 
+// Room for the most threads that there can be, and no Vec: a rig takes nothing from the heap.
 // The memory and the tables are no fields: they stay the caller's, who lends them to each call anew.
 // It is closed and not let go, so that the tokens that are left have something to be discarded against.
 pub struct Rig {

@@ -76,7 +76,7 @@ fn numbers(line: &Line, kind: Kind, bytes: &[u8]) -> Result<(u32, u32), BadLine>
     }
 }
 
-// The event that a line writes.
+// The event that a line writes. No TryFrom, since neither type is this crate's.
 pub fn event(line: &Line) -> Result<Event, BadLine>
     ensures { EventRead line.now.bytes.now line.now.number result }
 {

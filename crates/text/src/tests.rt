@@ -11,11 +11,8 @@ fn numbers(rt: HostRuntime) {
 
 // The next line, or the number of the refusal.
 fn next<'a>(reader: &mut Reader<'a>) -> Result<Option<&'a [u8]>, u32> {
-    match reader.next_line() {
-        Ok(Some(line)) => Ok(Some(line.bytes)),
-        Ok(None) => Ok(None),
-        Err(bad) => Err(u32::from(bad.reason)),
-    }
+    let line = reader.next_line().map_err(|bad| u32::from(bad.reason))?;
+    Ok(line.map(|line| line.bytes))
 }
 
 #[test]
