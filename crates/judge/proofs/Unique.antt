@@ -1,19 +1,18 @@
 -- The contract leaves one answer.
-use Rattle.std.proofs.Common.{◌≡◌, ℕ, cond, eqb, List, Ok, Err, sym, refl, ap, ◌∙◌, subst, arith}
+use Rattle.std.proofs.Common.{◌≡◌, ℕ, cond, eqb, List, Ok, Err, sym, refl, ap, ◌∙◌, subst}
 use Rattle.history.specs.Faults.{Shows, Lowest}
 use Rattle.history.specs.Refusals.{refusal_number}
 use Rattle.history.specs.declared.event.Event.{Event}
 use Rattle.history.specs.declared.refusal.Refusal.{Refusal}
 use Rattle.history.proofs.Positions.{least_one}
 use Rattle.history.proofs.Questions.{not_both, one_first}
-use Rattle.history.proofs.Faults.{shows_cases}
 use Rattle.history.proofs.Refusals.{refusal_one}
 use Rattle.judge.specs.Faults.{fault_number}
 use Rattle.judge.specs.declared.fault.Fault as judge
 use Rattle.judge.specs.declared.fault.Fault.TheVariants.{NotThere, PassedTooOften, TooManyOlder, NotEmpty, NotFull}
-use Rattle.judge.specs.Verdicts.{verdict_number, Judged}
+use Rattle.judge.specs.Verdicts.{Judged}
 use Rattle.judge.specs.Answers.{judge_questions}
-use Rattle.judge.specs.Theorems.{OneAnswer, ZeroIsSound}
+use Rattle.judge.specs.Theorems.{OneAnswer}
 use Rattle.judge.specs.declared.verdict.Verdict.{Verdict}
 use Rattle.judge.specs.declared.verdict.Verdict.TheVariants.{Sound, Fault}
 
@@ -48,10 +47,3 @@ answered_one k n h m (Ok v) (Err s) a b = absurd (not_both (judge_questions k n 
 answered_one k n h m (Err r) (Ok w) a b = absurd (not_both (judge_questions k n h m) (refusal_number r) b.0 a.0)
 answered_one k n h m (Err r) (Err s) a b =
     ap (λ (x : Refusal). Err x) (refusal_one h r s (one_first (judge_questions k n h m) (refusal_number r) (refusal_number s) a.0 b.0) a.1 b.1)
-
-pub zero_is_sound : ZeroIsSound
-zero_is_sound k n h Sound a = (λ _. refl, λ _. refl)
-zero_is_sound k n h (Fault f e) a = (
-  (λ z. absurd (shows_cases k n h (fault_number f) e ⊥ a.1.0.0 (λ q _. omega arith) (λ q _. omega arith) (λ q _. omega arith) (λ q _. omega arith) (λ q _. omega arith))),
-  (λ z. ap verdict_number z),
-)

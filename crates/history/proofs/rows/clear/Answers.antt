@@ -2,9 +2,6 @@ use Rattle.std.proofs.Common.{set, refl, ap, ◌∙◌, arith}
 use Rattle.history.proofs.Filled.{filled_more, filled_all}
 use Rattle.history.proofs.rows.clear.Goals as goal
 
-pub loop-i-init : goal.loop-i-init
-loop-i-init g c = refl
-
 pub loop-i-preserved : goal.loop-i-preserved
 loop-i-preserved g c =
     ap (λ xs. set xs c.loop-i.i c.args.blank) c.loop-i.invariant
