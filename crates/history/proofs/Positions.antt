@@ -42,10 +42,6 @@ some_find p (suc n) e =
 pub some_not : (p : ℕ → Bool) (n j : ℕ) → some_below p n ≡ false → j < n → p j ≡ false
 some_not p n j e lt = false_from (p j) (λ q. both_ways (some_below p n) e (some_at p n j lt q))
 
-pub some_same : (p q : ℕ → Bool) (n : ℕ) → ((j : ℕ) → j < n → p j ≡ q j) → some_below p n ≡ some_below q n
-some_same p q zero f = refl
-some_same p q (suc n) f = let a = f n (omega arith) in let b = some_same p q n (λ j lt. f j (omega arith)) in ap (λ x. x || some_below p n) a ∙ ap (λ x. q n || x) b
-
 pub count_same : (p q : ℕ → Bool) (n : ℕ) → ((j : ℕ) → j < n → p j ≡ q j) → count_below p n ≡ count_below q n
 count_same p q zero f = refl
 count_same p q (suc n) f =

@@ -1,5 +1,5 @@
 -- Questions have one answer, and keep it where more follow.
-use Rattle.std.proofs.Common.{◌≡◌, ℕ, List, [], ◌∷◌, ◌++◌, sym, ◌∙◌, inl, inr, ⊎_elim}
+use Rattle.std.proofs.Common.{◌≡◌, ℕ, List, [], ◌∷◌, sym, ◌∙◌, inl, inr, ⊎_elim}
 use Rattle.history.specs.Questions.{Question, AllYes, FirstNo}
 
 pub not_both : (qs : List Question) (n : ℕ) → AllYes qs → FirstNo qs n → ⊥
@@ -12,9 +12,3 @@ one_first (q ∷ qs) m n (inl a) (inl b) = a.1 ∙ sym b.1
 one_first (q ∷ qs) m n (inl a) (inr b) = absurd (a.0 b.0)
 one_first (q ∷ qs) m n (inr a) (inl b) = absurd (b.0 a.0)
 one_first (q ∷ qs) m n (inr a) (inr b) = one_first qs m n a.1 b.1
-
--- the first no among some questions is the first where more follow them
-pub first_no_front : (qs rs : List Question) (n : ℕ) → FirstNo qs n → FirstNo (qs ++ rs) n
-first_no_front [] rs n f = absurd f
-first_no_front (q ∷ qs) rs n (inl a) = inl a
-first_no_front (q ∷ qs) rs n (inr b) = inr (b.0, first_no_front qs rs n b.1)

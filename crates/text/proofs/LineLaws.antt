@@ -1,7 +1,7 @@
 -- The lines of an input: the first of them, and that there is one way only to cut an input into lines.
-use Rattle.std.proofs.Common.{◌≡◌, ℕ, ◌+◌, ◌-◌, ◌<◌, min, eqb, List, [], ◌∷◌, ◌++◌, length, take, drop, sym, refl, ap, ◌∙◌, subst, ⊎_elim, arith}
-use Rattle.std.proofs.lemmas.List.{take_at, take_all, take_rest, drop_at, drop-drop, drop_all}
-use Rattle.std.proofs.lemmas.Bool.{cases_Bool, cases_lt, cond-false, cond-true, cond_both, eqb-true, eqb-false, ne_eqb}
+use Rattle.std.proofs.Common.{◌≡◌, ℕ, ◌+◌, ◌<◌, eqb, List, [], ◌∷◌, ◌++◌, length, take, drop, sym, refl, ap, ◌∙◌, ⊎_elim, arith}
+use Rattle.std.proofs.lemmas.List.{take_at, take_all, drop_at, drop-drop, drop_all}
+use Rattle.std.proofs.lemmas.Bool.{cases_Bool, cond-false, cond-true, cond_both, eqb-true, eqb-false, ne_eqb}
 use Rattle.text.specs.Cut.{Lacks}
 use Rattle.text.specs.Lines.{onto_first, lines, ended, closed, AllLack, LinesOf, FirstLine}
 use Rattle.text.proofs.Parts.{lacks_more, lacks_rest}
@@ -31,17 +31,6 @@ first_is_all (x ∷ a) l h = record {
   front = sym (take_all (length (x ∷ a)) (x ∷ a) (omega arith));
   first = lines_one x a h ∙ ap (λ r. (x ∷ a) ∷ lines r) (sym (drop_all (length (x ∷ a) + 1) (x ∷ a) (omega arith)));
 }
-
--- what `&bytes[p..]` begins with
-pub first_ahead : (bs line : List ℕ) (p : ℕ) → FirstLine (take (length bs - p) (drop p bs)) line → FirstLine (drop p bs) line
-first_ahead bs line p h = let P : List ℕ → Type 0 = λ r. FirstLine r line in subst P (take_rest bs p) h
-
--- a reader goes on behind the line, or stops at the end of the input
-pub lines_behind : (bs line : List ℕ) (p q : ℕ) → FirstLine (drop p bs) line → q ≡ min (length bs) (p + length line + 1) → lines (drop p bs) ≡ line ∷ lines (drop q bs)
-lines_behind bs line p q h e = h.first ∙ ap (λ r. line ∷ lines r) (drop-drop (length line + 1) p bs ∙ ⊎_elim
-    (λ l. ap (λ k. drop k bs) (omega arith))
-    (λ l. drop_all (p + (length line + 1)) bs l ∙ sym (drop_all q bs (omega arith)))
-    (cases_lt (p + (length line + 1)) (length bs)))
 
 all_lack_onto : (b : ℕ) (ls : List (List ℕ)) → (b ≡ 10 → ⊥) → AllLack 10 ls → AllLack 10 (onto_first b ls)
 all_lack_onto b [] n h = (lacks_more 10 b [] n (λ k l e. omega arith), tt)

@@ -1,4 +1,4 @@
-use Rattle.std.proofs.Common.{set, refl, ap, ◌∙◌, arith}
+use Rattle.std.proofs.Common.{set, ap, ◌∙◌, arith}
 use Rattle.history.proofs.Filled.{filled_more, filled_all}
 use Rattle.history.proofs.rows.clear.Goals as goal
 
