@@ -1,6 +1,7 @@
 use Rattle.std.proofs.Common.{ℕ, List, subst}
 use Rattle.text.specs.Numeral.{Numeral}
-use Rattle.stored.proofs.Cuts.{one_pair, not_lacking}
+use Rattle.text.proofs.Parts.{not_lacking}
+use Rattle.stored.proofs.Cuts.{one_pair}
 use Rattle.stored.proofs.event_line.pair.Goals as goal
 
 pub returns-in_default : goal.returns-in_default
