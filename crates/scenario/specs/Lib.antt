@@ -1,2 +1,3 @@
+pub mod Header
 pub mod Quote
 pub mod Written

@@ -2,5 +2,6 @@
 #![tactic(auto)]
 
 pub mod element;
+pub mod header;
 pub mod quantity;
 pub mod quote;
