@@ -1,2 +1,4 @@
+pub mod Commands
 pub mod Headers
 pub mod Quotes
+pub mod Words

@@ -1,18 +1,16 @@
 -- A quote's bytes: there is one way to cut them.
-use Rattle.std.proofs.Common.{◌≡◌, ℕ, List, [], ◌∷◌, ◌++◌, codes, sym, ◌∙◌, arith}
+use Rattle.std.proofs.Common.{◌≡◌, ℕ, List, ◌∷◌, ◌++◌, codes, refl, sym, ◌∙◌}
 use Rattle.text.specs.Cut.{Lacks}
-use Rattle.text.proofs.Parts.{lacks_more, one_cut, digits_lack_colon}
+use Rattle.text.proofs.Parts.{one_cut, digits_lack_colon}
 use Rattle.scenario.specs.Quote.{side_word, QuoteWritten}
 use Rattle.scenario.specs.declared.quote.Quote.{Quote}
 use Rattle.scenario.specs.declared.quote.Side.{Side}
 use Rattle.scenario.specs.declared.quote.Side.TheVariants.{Bid, Ask}
-
-none_lacks : (c : ℕ) → Lacks c []
-none_lacks c k l e = omega arith
+use Rattle.scenario.proofs.Words.{lacks}
 
 side_lacks_colon : (side : Side) → Lacks 58 (side_word side)
-side_lacks_colon Bid = lacks_more 58 98 (codes "id") (λ e. omega arith) (lacks_more 58 105 (codes "d") (λ e. omega arith) (lacks_more 58 100 [] (λ e. omega arith) (none_lacks 58)))
-side_lacks_colon Ask = lacks_more 58 97 (codes "sk") (λ e. omega arith) (lacks_more 58 115 (codes "k") (λ e. omega arith) (lacks_more 58 107 [] (λ e. omega arith) (none_lacks 58)))
+side_lacks_colon Bid = lacks 58 (codes "bid") refl
+side_lacks_colon Ask = lacks 58 (codes "ask") refl
 
 -- bs cut at the first colon into a and r
 module _ (bs a r : List ℕ) (e : bs ≡ a ++ 58 ∷ r) (f : Lacks 58 a) (q : Quote) (W : QuoteWritten bs q) where

@@ -1,3 +1,4 @@
+pub mod Command
 pub mod Header
 pub mod Quote
 pub mod Written
