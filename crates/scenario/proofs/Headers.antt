@@ -1,7 +1,6 @@
 -- Header lines, from the lines that a reader has left.
-use Rattle.std.proofs.Common.{◌≡◌, ℕ, ◌+◌, ◌<◌, ◌≤◌, List, [], ◌∷◌, ◌++◌, length, codes, sym, ap, ◌∙◌, subst, inl, inr, arith}
+use Rattle.std.proofs.Common.{◌≡◌, ℕ, ◌+◌, List, [], ◌∷◌, ◌++◌, codes, sym, ap, ◌∙◌, subst, inl, inr, arith}
 use Rattle.std.proofs.lemmas.List.{append_cancel_left}
-use Rattle.std.specs.Borrow.{Bor}
 use Rattle.text.specs.Header.{HeaderTaken}
 use Rattle.text.specs.Reading.{left, Hands}
 use Rattle.text.specs.Refusal.{refusal}
@@ -49,11 +48,24 @@ module _ (s a : Reader) (k : ℕ) (K : Taken Number32 (codes "k=") s k a) where
     pub bad_third : (bad : BadLine) → BadFirst ThreadsWritten 3 (codes "threads=") (b.number + 1) (left b) bad → BadHeaders (left s) s.number bad
     bad_third bad f =
         let third : b.number + 1 ≡ s.number + 3 = omega (arith, K.counted, N.counted) in
-        inr (header_first Number32 (codes "k=") s k a K, inr (header_first Number32 (codes "segments=") a n b N,
-        inl (subst (λ (n : ℕ). BadFirst ThreadsWritten 3 (codes "threads=") n (left b) bad) third f)))
+        inr (
+          header_first Number32 (codes "k=") s k a K,
+          inr (
+            header_first Number32 (codes "segments=") a n b N,
+            inl (subst (λ (n : ℕ). BadFirst ThreadsWritten 3 (codes "threads=") n (left b) bad) third f),
+          ),
+        )
 
     pub bad_fourth : (c : Reader) (m : ℕ) → Taken ThreadsWritten (codes "threads=") b m c → (bad : BadLine) → BadFirst KindWritten 4 (codes "kind=") (c.number + 1) (left c) bad → BadHeaders (left s) s.number bad
     bad_fourth c m T bad f =
         let fourth : c.number + 1 ≡ s.number + 4 = omega (arith, K.counted, N.counted, T.counted) in
-        inr (header_first Number32 (codes "k=") s k a K, inr (header_first Number32 (codes "segments=") a n b N, inr (header_first ThreadsWritten (codes "threads=") b m c T,
-        subst (λ (n : ℕ). BadFirst KindWritten 4 (codes "kind=") n (left c) bad) fourth f)))
+        inr (
+          header_first Number32 (codes "k=") s k a K,
+          inr (
+            header_first Number32 (codes "segments=") a n b N,
+            inr (
+              header_first ThreadsWritten (codes "threads=") b m c T,
+              subst (λ (n : ℕ). BadFirst KindWritten 4 (codes "kind=") n (left c) bad) fourth f,
+            ),
+          ),
+        )

@@ -1,5 +1,5 @@
 -- What bytes write: a value, or none.
-use Rattle.std.specs.Prelude.{◌≡◌, ℕ, ℤ, pos, neg_ℤ, ◌≤ℤ◌, ◌^◌, ◌<◌, ◌⊎◌, List, ◌∷◌, Some, None, Option}
+use Rattle.std.specs.Prelude.{◌≡◌, ℕ, ℤ, pos, neg_ℤ, ◌^◌, ◌<◌, ◌⊎◌, List, ◌∷◌, Some, None, Option}
 use Rattle.text.specs.Numeral.{Numeral}
 
 -- the value that is written, or none where none is

@@ -25,7 +25,7 @@ pub struct Header {
 
 impl Kind {
     // The kind whose word the bytes are.
-    pub fn read(bytes: &[u8]) -> Option<Kind>
+    fn read(bytes: &[u8]) -> Option<Kind>
         ensures { Reads (KindWritten bytes.now) result }
     {
         match bytes {
@@ -45,7 +45,11 @@ fn thread_count(bytes: &[u8]) -> Option<u32>
 
 // The header line due, line `at`, and what follows its key.
 // Each part is taken by let .. else, a rule of the project, so that its refusal stands beside it.
-fn value_due<'a>(reader: &mut Reader<'a>, at: usize, key: &[u8]) -> Result<(Line<'a>, &'a [u8]), BadLine>
+fn value_due<'a>(
+    reader: &mut Reader<'a>,
+    at: usize,
+    key: &[u8],
+) -> Result<(Line<'a>, &'a [u8]), BadLine>
     ensures { ValueRead at key.now reader.old result reader.new }
 {
     let Some(line) = reader.next_line()? else {

@@ -6,3 +6,5 @@ pub mod element;
 pub mod header;
 pub mod quantity;
 pub mod quote;
+#[cfg(test)]
+mod tests;

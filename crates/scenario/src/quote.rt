@@ -1,8 +1,7 @@
 // Quotes.
 ghost use Rattle.std.specs.Prelude.{Some};
-ghost use Rattle.scenario.specs.Quote.{side_word, quote_text};
+ghost use Rattle.scenario.specs.Quote.{side_word, quote_text, SideWritten, QuoteWritten};
 ghost use Rattle.scenario.specs.Written.{Reads};
-ghost use Rattle.scenario.specs.Quote.{SideWritten, QuoteWritten};
 
 use super::quantity::Quantity;
 use std::fmt;
@@ -48,7 +47,7 @@ impl fmt::Display for Quote {
 
 impl Side {
     // The side that the bytes write.
-    pub fn read(bytes: &[u8]) -> Option<Side>
+    fn read(bytes: &[u8]) -> Option<Side>
         ensures { Reads (SideWritten bytes.now) result }
     {
         match bytes {

@@ -11,5 +11,5 @@ pub returns-in_err-number : goal.returns-in_err-number
 returns-in_err-number c =
     let a = c.in_ok-thread in
     rw c.from_residual-in_err-number.ensures (λ t r T.
-      let same = one_thread c.args.bytes.now a.thread.now a.rest.now a.ensures.0 a.ensures.1 t (λ l. l ≡ r) T in
-      c.in_err-number.ensures t (subst (λ (l : List ℕ). Numeral l t) same.0 T.thread_is.0) T.thread_is.1)
+    let same = one_thread c.args.bytes.now a.thread.now a.rest.now a.ensures.0 a.ensures.1 t (λ l. l ≡ r) T in
+    c.in_err-number.ensures t (subst (λ (l : List ℕ). Numeral l t) same.0 T.thread_is.0) T.thread_is.1)

@@ -1,4 +1,4 @@
-use Rattle.std.proofs.Common.{ℕ, ◌+◌, Err, Result, codes, sym, ap, ◌∙◌, subst}
+use Rattle.std.proofs.Common.{◌+◌, Err, Result, codes, sym, ap, ◌∙◌, subst}
 use Rattle.std.proofs.lemmas.Result.{err_from_is_err_and}
 use Rattle.text.specs.Reading.{left}
 use Rattle.text.specs.declared.line.BadLine.{BadLine}

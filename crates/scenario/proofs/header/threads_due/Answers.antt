@@ -3,7 +3,6 @@ use Rattle.std.proofs.lemmas.Result.{err_from_is_err_and}
 use Rattle.text.specs.Reading.{left}
 use Rattle.text.specs.declared.line.BadLine.{BadLine}
 use Rattle.scenario.specs.Header.{ThreadsWritten, DueRead}
-use Rattle.scenario.specs.declared.header.Kind.{Kind}
 use Rattle.scenario.proofs.Headers.{bad_other, unreadable}
 use Rattle.scenario.proofs.header.threads_due.Goals as goal
 

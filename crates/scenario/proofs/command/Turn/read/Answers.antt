@@ -11,6 +11,6 @@ pub returns-in_err-start : goal.returns-in_err-start
 returns-in_err-start c =
     let a = c.in_ok-thread in
     rw c.from_residual-in_err-start.ensures (λ turn T.
-      let same = same_behind c.args.bytes.now a.rest.now turn.thread a.thread (λ l. Number32 l turn.start) T a.ensures in
-      let start = subst (λ (l : List ℕ). Number32 l turn.start) same T.behind_is in
-      c.in_err-start.ensures turn.start start.0 start.1)
+    let same = same_behind c.args.bytes.now a.rest.now turn.thread a.thread (λ l. Number32 l turn.start) T a.ensures in
+    let start = subst (λ (l : List ℕ). Number32 l turn.start) same T.behind_is in
+    c.in_err-start.ensures turn.start start.0 start.1)
