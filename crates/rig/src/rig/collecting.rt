@@ -10,7 +10,6 @@ use crate::thread::Thread;
 use crate::token::{CallToken, Declined};
 use history::rows::MOST;
 use steps::answer::Answer;
-use steps::call::Call;
 
 // What an answer gives; nothing where the table has not the item's row.
 fn reply_to<E: Copy>(answer: Answer, items: &[E]) -> Option<Reply<E>>
@@ -52,10 +51,7 @@ impl Rig {
             Err(refusal) => Err(Declined { refusal, token }),
             Ok(reply) => {
                 let CallToken { thread, number: _ } = token;
-                self.threads[thread as usize] = Thread {
-                    call: Call::Idle,
-                    number: None,
-                };
+                self.threads[thread as usize] = Thread::IDLE;
                 Ok(reply)
             }
         }
