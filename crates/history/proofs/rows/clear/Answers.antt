@@ -1,5 +1,5 @@
-use Rattle.std.proofs.Common.{◌≡◌, set, ap, ◌∙◌, arith, ◌++◌, [], min, length, take, drop, replicate, sym}
-use Rattle.std.proofs.lemmas.List.{append_assoc, length-take, drop_all, append-nil}
+use Rattle.std.proofs.Common.{◌≡◌, set, ap, ◌∙◌, arith, ◌++◌, [], min, length, take, drop, replicate}
+use Rattle.std.proofs.lemmas.List.{append_assoc, length-take, drop_all}
 use Rattle.history.proofs.Filled.{filled_more, filled_all}
 use Rattle.history.proofs.rows.clear.Goals as goal
 
