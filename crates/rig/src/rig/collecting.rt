@@ -16,13 +16,13 @@ fn reply_to<E: Copy>(answer: Answer, items: &[E]) -> Option<Reply<E>>
     ensures { RepliedTo items.now answer result }
 {
     match answer {
-        Answer::Accepted => Some(Reply::Accepted),
-        Answer::Full => Some(Reply::Full),
-        Answer::Empty => Some(Reply::Empty),
+        Answer::Accepted => Some(Answer::Accepted),
+        Answer::Full => Some(Answer::Full),
+        Answer::Empty => Some(Answer::Empty),
         Answer::Item(item) => {
             let used = items.len().min(MOST);
             let row = (item as usize).checked_sub(1)?;
-            items[..used].get(row).copied().map(Reply::Element)
+            items[..used].get(row).copied().map(Answer::Item)
         }
     }
 }
