@@ -16,7 +16,7 @@ impl<const LEAST: u32, const MOST: u32> Bounded<LEAST, MOST> {
     pub fn new(number: u32) -> Option<Bounded<LEAST, MOST>>
         ensures { MatchOption result ((LEAST ≤ number) × (number ≤ MOST) → ⊥) (λ bounded. bounded.number ≡ number) }
     {
-        if number < LEAST || number > MOST {
+        if !(LEAST..=MOST).contains(&number) {
             return None;
         }
         Some(Bounded { number })

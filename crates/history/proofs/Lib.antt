@@ -7,3 +7,4 @@ pub mod Faults
 pub mod Questions
 pub mod Refusals
 pub mod Filled
+pub mod Parts

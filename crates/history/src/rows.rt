@@ -10,7 +10,8 @@ pub fn clear<T: Copy>(rows: &mut [T], blank: T)
     ensures { rows.new ≡ cleared blank rows.old }
 {
     // No `fill`: it clones, and that a type is Copy does not say that its clone is the same value.
-    for i in 0..rows.len().min(MOST) {
-        rows[i] = blank;
+    let used = rows.len().min(MOST);
+    for row in rows[..used].iter_mut() {
+        *row = blank;
     }
 }

@@ -6,6 +6,7 @@ use Rattle.std.specs.List.{HoldsAt, AllWithin}
 use Rattle.history.specs.Events.{nothing, kind_number, event_at, kind_at, is}
 use Rattle.history.specs.declared.event.Event.{Event}
 use Rattle.history.specs.declared.event.Kind.TheVariants.{Accepted}
+use Rattle.history.proofs.Parts.{part_at}
 use Rattle.history.proofs.Facts.{kind_if, answered_few}
 use Rattle.judge.specs.Rows.{blank}
 use Rattle.judge.specs.State.{holds, Knows}
@@ -13,7 +14,6 @@ use Rattle.judge.specs.Walk.{free, First}
 use Rattle.judge.specs.declared.judging.Judging.{Judging}
 use Rattle.judge.specs.declared.row.Row.{Row}
 use Rattle.judge.proofs.Known.{free_holds}
-use Rattle.judge.proofs.Walks.{part_at}
 
 -- the event accepts an item that the rows have as held, or not so
 abbrev pub Held : List Row → Event → Type 0

@@ -1,14 +1,15 @@
 -- The walk that passes items.
 use Rattle.std.proofs.Common.{◌≡◌, ℕ, suc, ◌+◌, ◌-◌, ◌<◌, ◌≤◌, Bool, true, false, cond, not, ◌&&◌, ◌||◌, ◌≢◌, List, length, get_or, take, drop, set, sym, refl, ap, ◌∙◌, subst, inl, ⊎_elim, add-one, arith}
-use Rattle.std.proofs.lemmas.List.{get_or-set_same, get_or-set_other, set-get_or, get_or-take, get_or-drop}
+use Rattle.std.proofs.lemmas.List.{get_or-set_same, get_or-set_other, set-get_or}
 use Rattle.std.proofs.lemmas.Bool.{both_ways, cond-false, cond-true, ne_eqb, eq-eqb, and_from, and_left, and_right, or_left, not-false, not_from_true, not_from_false, cases_Bool, cases_eq}
 use Rattle.history.specs.Positions.{count_below}
-use Rattle.history.specs.Events.{nothing, event_at, kind_number, kind_at, item_at, is, tells}
+use Rattle.history.specs.Events.{nothing, kind_number, kind_at, item_at, is, tells}
 use Rattle.history.specs.WellFormed.{Formed}
 use Rattle.history.specs.Items.{accepted}
 use Rattle.history.specs.declared.event.Event.{Event}
 use Rattle.history.specs.declared.event.Kind.TheVariants.{Accepted}
 use Rattle.history.proofs.Positions.{some_more, count_more, false_from, some_none, some_find, count_none}
+use Rattle.history.proofs.Parts.{part_at}
 use Rattle.history.proofs.Facts.{kind_if, tells_parts, tells_from, tells_other, tells_kind, accepts_once, answered_few}
 use Rattle.judge.specs.Rows.{blank}
 use Rattle.judge.specs.Walk.{free, bumped, passed, Walk}
@@ -144,10 +145,6 @@ turn_at k h rows₀ from to q older rows W lt e g =
       pass = go_pass k h rows₀ W.formed q older rows in_h e a.0 in_rows g;
       leave = λ o. subst (λ (xs : List Row). Going k h rows₀ (q + 1) older xs) (sym (set-get_or rows (item_at h q - 1) blank)) (go_handed k h rows₀ W.formed q older rows in_h e a.0 in_rows g o);
     }
-
--- the walk reads the events of a part of the history
-pub part_at : (h : List Event) (from to n : ℕ) → n < to - from → get_or (take (to - from) (drop from h)) n nothing ≡ event_at h (from + n)
-part_at h from to n lt = get_or-take (to - from) (drop from h) n nothing lt ∙ get_or-drop from h n nothing
 
 module _ {k : ℕ} {h : List Event} {rows₀ : List Row} {from to : ℕ} (W : Walk k h rows₀ from to) (start n older : ℕ) (rows : List Row) (lt : n < to - start) (g : Going k h rows₀ (start + n) older rows) where
   pub turn : (get_or (take (to - start) (drop start h)) n nothing).kind ≡ Accepted → Turn k h rows₀ (start + n) older rows (get_or (take (to - start) (drop start h)) n nothing).item

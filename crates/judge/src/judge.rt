@@ -35,9 +35,8 @@ fn run(history: &[Event], shape: Shape, rows: &mut [Row]) -> Verdict
         seen,
     };
     let mut flights = Flights::new();
-    // By position: the event is looked up in the history that `judging` holds, and a fault names its position.
-    for i in 0..history.len() {
-        if let Some(fault) = judging.step(i, &flights) {
+    for (i, event) in history.iter().enumerate() {
+        if let Some(fault) = judging.step(i, *event, &flights) {
             return Verdict::Fault(fault, i);
         }
         flights.note(history, i);

@@ -1,4 +1,4 @@
-// The size of the queue.
+// The shape of the queue.
 use bounded::Bounded;
 
 // A segment has k slots, and there are so many segments.

@@ -6,8 +6,8 @@ use super::judging::Judging;
 use super::row::Row;
 use history::event::{Event, Kind};
 
-// No method of `Judging`: the loop lends one row, which a slice allows and a field behind `self` does not.
 // Passes each item accepted from event `from` to before event `to` that is not handed out; answers how many, or nothing where one is now passed k times.
+// No method of `Judging`: the loop lends one row, which a slice allows and a field behind `self` does not.
 pub(super) fn pass(
     history: &[Event],
     rows: &mut [Row],

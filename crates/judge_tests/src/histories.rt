@@ -17,10 +17,9 @@ fn kind(letter: u8) -> Result<Kind, Fail> {
 }
 
 fn digit(letter: u8) -> Result<u32, Fail> {
-    match letter {
-        b'0'..=b'9' => Ok(u32::from(letter - b'0')),
-        _ => Err(Fail::new("this is no digit")),
-    }
+    char::from(letter)
+        .to_digit(10)
+        .ok_or_else(|| Fail::new("this is no digit"))
 }
 
 pub fn told(heap: Global, text: &str) -> Result<Vec<Event>, Fail> {

@@ -36,9 +36,9 @@ pub fn swap_word(words: &mut [u64], i: usize, expected: u32, new: u32) -> bool
     let Some(mut pair) = read_word(words, i) else {
         return false;
     };
-    let done = swap_pair(&mut pair, expected, new);
-    if done {
-        words[i] = pack(pair);
+    if !swap_pair(&mut pair, expected, new) {
+        return false;
     }
-    done
+    words[i] = pack(pair);
+    true
 }

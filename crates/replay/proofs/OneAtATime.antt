@@ -25,13 +25,6 @@ pub record Alone (h : List Event) (i : ℕ) (busy : Bool) : Type 0 where
   pub one : busy ≡ true → (t : ℕ) × (in_flight h t i ≡ true)
   pub apart : Apart h i
 
-pub alone_at_first : (h : List Event) → Alone h 0 false
-alone_at_first h = record {
-  none = λ b t f. both_ways false refl f;
-  one = λ b. absurd (both_ways false refl b);
-  apart = λ j t u le a b. let z : j ≡ 0 = omega arith in absurd (both_ways false refl (subst (λ (n : ℕ). in_flight h t n ≡ true) z a));
-}
-
 module _ (h : List Event) (i : ℕ) (f : formed h i ≡ true) where
   -- a call in flight after event i is that event's, or was in flight before
   still : (t : ℕ) → in_flight h t (i + 1) ≡ true → ((t ≡ thread_at h i) × (begins (event_at h i).kind ≡ true)) ⊎ ((t ≡ thread_at h i → ⊥) × (in_flight h t i ≡ true))

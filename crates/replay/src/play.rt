@@ -19,6 +19,7 @@ fn place_of(waiting: &WindowQueue<u32>, item: u32) -> Option<usize>
 }
 
 // Plays an event on the queue, but for acceptances, which are fed to it apart; false where the event is not allowed, and the queue then stays.
+// A yes or no, and no Result: nobody asks why the queue does not allow an event.
 pub fn play(waiting: &mut WindowQueue<u32>, event: Event) -> bool
     ensures { Plays event.kind event.item (content waiting.old) result (content waiting.new) }
 {

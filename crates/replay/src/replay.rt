@@ -21,11 +21,10 @@ fn feed(waiting: &mut WindowQueue<u32>, history: &[Event], fed: usize, i: usize)
     requires playing { Playing (content waiting.old).k history.now i fed (content waiting.old) }
     ensures { Fed (content waiting.old).k history.now i result (content waiting.new) }
 {
-    for at in fed..i {
+    for (ahead, event) in history[fed..i].iter().enumerate() {
         if waiting.len() >= waiting.window() as usize {
-            return at;
+            return fed + ahead;
         }
-        let event = history[at];
         if event.kind == Kind::Accepted {
             let Ok(()) = waiting.append(event.item) else {
                 unreachable()

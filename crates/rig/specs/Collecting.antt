@@ -9,8 +9,6 @@ use Rattle.rig.specs.Beginning.{known}
 use Rattle.rig.specs.Refusals.{refusal_number}
 use Rattle.rig.specs.Worlds.{State, resting, thread_at, call_at}
 use Rattle.rig.specs.declared.refusal.Refusal.{Refusal}
-use Rattle.rig.specs.declared.reply.Reply.{Reply}
-use Rattle.rig.specs.declared.reply.Reply.TheVariants as reply
 use Rattle.rig.specs.declared.token.CallToken.{CallToken}
 use Rattle.rig.specs.declared.token.Declined.{Declined}
 
@@ -24,7 +22,7 @@ abbrev pub present : State → CallToken → Bool
 present r token = is_number (thread_at r token.thread).number token.number
 
 -- the answer, where the call has one
-abbrev pub answer_at : State → CallToken → Option Answer
+abbrev pub answer_at : State → CallToken → Option (Answer ℕ)
 answer_at r token = answer_of (call_at r token.thread)
 
 -- the rig once thread t is idle again
@@ -33,7 +31,7 @@ rested r t = record { config = r.config; threads = slice_set r.threads t resting
 
 module _ {E : Type 0} where
   -- for an item: has the table its row?
-  abbrev pub has_row : List E → Option Answer → Bool
+  abbrev pub has_row : List E → Option (Answer ℕ) → Bool
   has_row xs None = true
   has_row xs (Some Accepted) = true
   has_row xs (Some Full) = true
@@ -52,23 +50,23 @@ module _ {E : Type 0} where
   collect_no r xs token = first_no (collect_questions r xs token)
 
   -- the number of a reply is that of the answer; an item gives the element in its row
-  abbrev pub Gives : List E → Option Answer → Reply E → Type 0
+  abbrev pub Gives : List E → Option (Answer ℕ) → Answer E → Type 0
   Gives xs None e = ⊥
-  Gives xs (Some Accepted) e = e ≡ reply.Accepted
-  Gives xs (Some Full) e = e ≡ reply.Full
-  Gives xs (Some (Item x)) e = (y : E) × ((e ≡ reply.Element y) × (y ≡ slice_index_or xs (x - 1) y))
-  Gives xs (Some Empty) e = e ≡ reply.Empty
+  Gives xs (Some Accepted) e = e ≡ Accepted
+  Gives xs (Some Full) e = e ≡ Full
+  Gives xs (Some (Item x)) e = (y : E) × ((e ≡ Item y) × (y ≡ slice_index_or xs (x - 1) y))
+  Gives xs (Some Empty) e = e ≡ Empty
 
-  abbrev pub Collects : State → List E → CallToken → Result (Reply E) Declined → State → Type 0
+  abbrev pub Collects : State → List E → CallToken → Result (Answer E) Declined → State → Type 0
   Collects r xs token (Ok e) s = (collect_no r xs token ≡ None) × (Gives xs (answer_at r token) e × (s ≡ rested r token.thread))
   Collects r xs token (Err d) s = (collect_no r xs token ≡ Some (refusal_number d.refusal)) × ((d.token ≡ token) × (s ≡ r))
 
   -- the questions were answered yes, and this is what the call gave
-  abbrev pub CollectAsked : State → List E → CallToken → Result (Reply E) Refusal → Type 0
+  abbrev pub CollectAsked : State → List E → CallToken → Result (Answer E) Refusal → Type 0
   CollectAsked r xs token (Ok e) = (collect_no r xs token ≡ None) × Gives xs (answer_at r token) e
   CollectAsked r xs token (Err e) = collect_no r xs token ≡ Some (refusal_number e)
 
   -- the reply to an answer whose row is there
-  abbrev pub RepliedTo : List E → Answer → Option (Reply E) → Type 0
+  abbrev pub RepliedTo : List E → Answer ℕ → Option (Answer E) → Type 0
   RepliedTo xs a (Some e) = (has_row xs (Some a) ≡ true) × Gives xs (Some a) e
   RepliedTo xs a None = has_row xs (Some a) ≡ false

@@ -13,7 +13,7 @@ progress_number Flat = (0, 0)
 progress_number Going = (1, 0)
 progress_number (Ended a) = answer_number a
 
-abbrev pub told_by : Option Answer → ℕ × ℕ
+abbrev pub told_by : Option (Answer ℕ) → ℕ × ℕ
 told_by None = (1, 0)
 told_by (Some a) = answer_number a
 

@@ -54,18 +54,18 @@ item_of (Taking s) = 0
 item_of (Answered a) = 0
 
 -- the event of an answer that thread t got to this call
-abbrev pub answer_event : ℕ → Call → Answer → Event
+abbrev pub answer_event : ℕ → Call → Answer ℕ → Event
 answer_event t c Accepted = record { kind = kind.Accepted; thread = t; item = item_of c }
 answer_event t c Full = record { kind = kind.Full; thread = t; item = item_of c }
 answer_event t c (Item x) = record { kind = kind.HandedOut; thread = t; item = x }
 answer_event t c Empty = record { kind = kind.Empty; thread = t; item = 0 }
 
 -- an answer is the next event of the history, which has u events
-abbrev pub noted : List Event → ℕ → ℕ → Call → Option Answer → List Event
+abbrev pub noted : List Event → ℕ → ℕ → Call → Option (Answer ℕ) → List Event
 noted h u t c None = h
 noted h u t c (Some a) = slice_set h u (answer_event t c a)
 
-abbrev pub noted_count : ℕ → Option Answer → ℕ
+abbrev pub noted_count : ℕ → Option (Answer ℕ) → ℕ
 noted_count u None = u
 noted_count u (Some a) = u + 1
 

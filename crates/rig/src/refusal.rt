@@ -37,6 +37,7 @@ impl From<Refusal> for u32 {
     }
 }
 
+// Written at each type of refusal, since an impl by a macro of the repository's own is refused.
 impl fmt::Display for Refusal {
     ghost output = { λ refusal. Some (refusal_text refusal) };
 

@@ -1,9 +1,5 @@
 // What a collected call gives.
+use steps::answer::Answer;
 
-#[derive(Clone, Copy, Debug, PartialEq, Eq)]
-pub enum Reply<E> {
-    Accepted,
-    Full,
-    Element(E),
-    Empty,
-}
+// The answer, with the element in place of the item's number.
+pub type Reply<E> = Answer<E>;

@@ -7,3 +7,11 @@ pub struct Thread {
     pub call: Call,
     pub number: Option<u32>,
 }
+
+impl Thread {
+    // It has no call.
+    pub const IDLE: Thread = Thread {
+        call: Call::Idle,
+        number: None,
+    };
+}

@@ -4,7 +4,7 @@ use Rattle.steps.specs.declared.answer.Answer.{Answer}
 use Rattle.steps.specs.declared.answer.Answer.TheVariants.{Accepted, Full, Item, Empty}
 
 -- the number of each answer, with the item that it carries, else 0
-abbrev pub answer_number : Answer → ℕ × ℕ
+abbrev pub answer_number : Answer ℕ → ℕ × ℕ
 answer_number Accepted = (3, 0)
 answer_number Full = (4, 0)
 answer_number (Item x) = (5, x)

@@ -36,7 +36,7 @@ advanced q r (Checking x slot s) g = led (check_row q x slot s) g (Checking x sl
 advanced q r (Taking s) g = led (take_row q r s) g (Taking s)
 advanced q r (Answered a) g = Answered a
 
-abbrev pub answer_of : Call → Option Answer
+abbrev pub answer_of : Call → Option (Answer ℕ)
 answer_of Idle = None
 answer_of (Putting x s) = None
 answer_of (Checking x slot s) = None

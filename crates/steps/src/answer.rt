@@ -1,12 +1,12 @@
-// The answer of a call: of a put accepted or full, of a take an item or empty.
+// The answer of a call: of a put accepted or full, of a take an item or empty. The steps name an item by its number; whoever collects a call gets the element.
 ghost use Rattle.std.specs.Prelude.{◌≡◌};
 ghost use Rattle.steps.specs.Answers.{answer_number};
 
 #[derive(Clone, Copy, Debug, PartialEq, Eq)]
-pub enum Answer {
+pub enum Answer<T = u32> {
     Accepted,
     Full,
-    Item(u32),
+    Item(T),
     Empty,
 }
 

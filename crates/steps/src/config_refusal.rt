@@ -25,7 +25,7 @@ impl From<ConfigRefusal> for u32 {
     }
 }
 
-// The number in decimal.
+// Written at each type of refusal, since an impl by a macro of the repository's own is refused.
 impl fmt::Display for ConfigRefusal {
     ghost output = { λ refusal. Some (refusal_text refusal) };
 

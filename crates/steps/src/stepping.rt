@@ -62,7 +62,7 @@ impl Call {
         }
     }
 
-    // From its begin to its answer.
+    // Whether a call is in flight: begun and not answered.
     pub fn in_flight(self) -> bool
         ensures { result ≡ in_flight self }
     {

@@ -7,7 +7,7 @@ use super::config::Config;
 use super::kept::Marker;
 use super::search::Search;
 
-// The start number is the step's own.
+// The configuration that the step is made in, and the start number that it was given.
 #[derive(Clone, Copy)]
 pub(crate) struct Turn {
     pub(crate) config: Config,

@@ -28,7 +28,7 @@ fn word(kind: Kind) -> &'static [u8]
     }
 }
 
-// The kind that a line begins with, and what follows the word.
+// The kind that a line begins with, and what follows the word. A loop, since what `find_map` passes over takes a longer proof.
 fn kind_of<'a>(line: &Line<'a>) -> Option<(Kind, &'a [u8])>
     ensures { KeyOf line.now.bytes.now result }
 {
@@ -40,7 +40,7 @@ fn kind_of<'a>(line: &Line<'a>) -> Option<(Kind, &'a [u8])>
     None
 }
 
-// A thread and an item, with a colon between them. Each is taken by let .. else, a rule of the project, so that its refusal stands beside it.
+// A thread and an item, with a colon between them. Each is taken by let .. else, a rule of the project (docs/DECISIONS.md), so that its refusal stands beside it.
 fn pair(line: &Line, bytes: &[u8]) -> Result<(u32, u32), BadLine>
     ensures { NumbersRead Kind.PutBegun bytes.now line.now.number result }
 {

@@ -6,7 +6,7 @@ use super::line::{BadLine, Reason};
 use super::reader::Reader;
 
 // The number on the header line due: line `at`, which begins with `key`.
-// Each part is taken by let .. else, a rule of the project, so that its refusal stands beside it.
+// Each part is taken by let .. else, a rule of the project (docs/DECISIONS.md), so that its refusal stands beside it.
 pub fn header_number(reader: &mut Reader, at: usize, key: &[u8]) -> Result<u32, BadLine>
     ensures { HeaderRead at key.now reader.old result reader.new }
 {

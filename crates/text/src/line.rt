@@ -7,7 +7,7 @@ use std::error::Error;
 use std::fmt;
 
 // A line of the input, numbered from 1.
-#[derive(Clone, Copy)]
+#[derive(Clone, Copy, Debug, PartialEq, Eq)]
 pub struct Line<'a> {
     pub number: usize,
     pub bytes: &'a [u8],

@@ -3,6 +3,7 @@ ghost use Rattle.std.specs.Prelude.{◌≤◌, length};
 
 mod reading;
 
+// The bytes with a position, a rule of the project, and no rest of them: the count is bounded by the position.
 #[derive(Drop)]
 pub struct Reader<'a> {
     bytes: &'a [u8],

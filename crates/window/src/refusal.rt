@@ -22,12 +22,12 @@ impl From<Refusal> for u32 {
     }
 }
 
+// Written at each type of refusal, since an impl by a macro of the repository's own is refused.
 impl fmt::Display for Refusal {
     ghost output = { λ refusal. Some (refusal_text refusal) };
 
     fn fmt<W: fmt::Write>(&self, f: &mut fmt::Formatter<W>) -> fmt::Result {
-        let number = u32::from(*self);
-        write!(f, "{number}")
+        write!(f, "{}", u32::from(*self))
     }
 }
 

@@ -46,6 +46,6 @@ abbrev pub collected : World → World
 collected w = record { rig = rested w.rig 0; memory = w.memory; history = w.history }
 
 -- the call that has begun gets this answer at step n + 1, and not before
-pub record AnswersAfter (w : World) (n : ℕ) (a : Answer) : Type 0 where
+pub record AnswersAfter (w : World) (n : ℕ) (a : Answer ℕ) : Type 0 where
   pub goes_on : in_flight (call_at (after_steps n w).rig 0) ≡ true
   pub answers : told (call_at (after_steps (suc n) w).rig 0) ≡ answer_number a

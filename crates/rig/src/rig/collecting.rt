@@ -10,20 +10,19 @@ use crate::thread::Thread;
 use crate::token::{CallToken, Declined};
 use history::rows::MOST;
 use steps::answer::Answer;
-use steps::call::Call;
 
 // What an answer gives; nothing where the table has not the item's row.
 fn reply_to<E: Copy>(answer: Answer, items: &[E]) -> Option<Reply<E>>
     ensures { RepliedTo items.now answer result }
 {
     match answer {
-        Answer::Accepted => Some(Reply::Accepted),
-        Answer::Full => Some(Reply::Full),
-        Answer::Empty => Some(Reply::Empty),
+        Answer::Accepted => Some(Answer::Accepted),
+        Answer::Full => Some(Answer::Full),
+        Answer::Empty => Some(Answer::Empty),
         Answer::Item(item) => {
             let used = items.len().min(MOST);
             let row = (item as usize).checked_sub(1)?;
-            items[..used].get(row).copied().map(Reply::Element)
+            items[..used].get(row).copied().map(Answer::Item)
         }
     }
 }
@@ -52,10 +51,7 @@ impl Rig {
             Err(refusal) => Err(Declined { refusal, token }),
             Ok(reply) => {
                 let CallToken { thread, number: _ } = token;
-                self.threads[thread as usize] = Thread {
-                    call: Call::Idle,
-                    number: None,
-                };
+                self.threads[thread as usize] = Thread::IDLE;
                 Ok(reply)
             }
         }

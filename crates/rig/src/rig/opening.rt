@@ -4,7 +4,6 @@ ghost use Rattle.rig.specs.Opening.{Opened};
 use super::Rig;
 use crate::thread::Thread;
 use memory::Memory;
-use steps::call::Call;
 use steps::config::Config;
 
 impl Rig {
@@ -13,13 +12,9 @@ impl Rig {
         ensures { Opened config (M.meaning memory.old) result (M.meaning memory.new) }
     {
         memory.clear();
-        let resting = Thread {
-            call: Call::Idle,
-            number: None,
-        };
         Rig {
             config,
-            threads: [resting; 64],
+            threads: [Thread::IDLE; 64],
             begun: 0,
             items: 0,
             events: 0,

@@ -1,5 +1,5 @@
-use Rattle.std.proofs.Common.{◌≡◌, ◌++◌, drop, replicate}
+use Rattle.std.proofs.Common.{◌≡◌, ◌++◌, take, drop, replicate}
 use Rattle.history.proofs.rows.clear.Given as goal
 
-abbrev pub invariant-loop-i : goal.invariant-loop-i
-invariant-loop-i g l = l.rows ≡ replicate l.i l.blank ++ drop l.i l.initial.rows
+abbrev pub invariant-loop-row : goal.invariant-loop-row
+invariant-loop-row g l = l.row-items ≡ replicate l.row-index l.blank ++ drop l.row-index (take l.used l.fn.rows)
