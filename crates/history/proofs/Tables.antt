@@ -1,15 +1,16 @@
 -- The table of the threads' last events and the count of puts, one event on.
-use Rattle.std.proofs.Common.{◌≡◌, ℕ, ◌+◌, ◌<◌, true, List, length, Some, None, Option, get_or, set, sym, refl, ap, ◌∙◌, subst, ⊎_elim, add-one, arith}
+use Rattle.std.proofs.Common.{◌≡◌, ℕ, ◌+◌, ◌<◌, ◌≤◌, true, List, length, Some, None, Option, get_or, set, sym, refl, ap, ◌∙◌, subst, ⊎_elim, add-one, arith}
 use Rattle.std.proofs.lemmas.List.{get_or-set_same, get_or-set_other}
 use Rattle.std.proofs.lemmas.Bool.{cases_eq, eq-eqb, ne_eqb, cond-true, cond-false, and_parts, ltb-true}
 use Rattle.history.specs.Events.{event_at, thread_at, kind_at, kind_number, is}
 use Rattle.history.specs.Calls.{by, last_event, puts_before}
-use Rattle.history.specs.Tables.{mark}
+use Rattle.history.specs.Tables.{Counted, mark}
+use Rattle.history.specs.declared.threads.LastEvents.{LastEvents}
 use Rattle.history.specs.WellFormed.{formed, suits}
 use Rattle.history.specs.declared.event.Event.{Event}
 use Rattle.history.specs.declared.event.Kind.{Kind}
 use Rattle.history.specs.declared.event.Kind.TheVariants.{PutBegun, TakeBegun, Accepted, Full, HandedOut, Empty}
-use Rattle.history.proofs.Positions.{last_more, count_more}
+use Rattle.history.proofs.Positions.{last_le, last_more, count_more}
 
 pub last_event_own : (h : List Event) (i : ℕ) → last_event h (thread_at h i) (i + 1) ≡ i + 1
 last_event_own h i = last_more (by h (thread_at h i)) i ∙ cond-true (by h (thread_at h i) i) _ _ (eq-eqb (thread_at h i) (thread_at h i) refl) ∙ sym (add-one i)
@@ -26,6 +27,11 @@ lasts_next h i at len small are t lt = ⊎_elim
     (ap mark (get_or-set_same at (thread_at h i) (Some i) None (omega arith)) ∙ sym (add-one i) ∙ sym (last_event_own h i)))
     (λ (e : t ≡ thread_at h i → ⊥). ap mark (get_or-set_other at (thread_at h i) t (Some i) None e) ∙ are t lt ∙ sym (last_event_other h i t e))
     (cases_eq t (thread_at h i))
+
+-- where a thread's last event before event i stands lies within the history
+pub last_within : (h : List Event) (i : ℕ) (table : LastEvents) (begun : ℕ) → Counted h i table begun → i < length h → (t : ℕ) → t < 64
+    → mark (get_or table.positions t None) ≤ length h
+last_within h i table begun counted lt t small = omega (arith, counted.lasts t small, last_le (by h t) i)
 
 pub formed_small : (h : List Event) (i : ℕ) → formed h i ≡ true → thread_at h i < 64
 formed_small h i e = ltb-true (thread_at h i) 64 (and_parts _ (suits (event_at h i).kind h i) e).0

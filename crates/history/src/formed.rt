@@ -15,6 +15,7 @@ fn call_in_flight(history: &[Event], last: Option<usize>) -> Option<Event>
     matches!(event.kind, Kind::PutBegun | Kind::TakeBegun).then_some(event)
 }
 
+#[tactic(auto, using(crate::proofs::Tables::last_within))]
 fn is_formed(history: &[Event], i: usize, threads: &LastEvents, begun: usize) -> bool
     requires within { i < length history.now }
     requires counted { Counted history.now i threads.now begun }
@@ -24,15 +25,25 @@ fn is_formed(history: &[Event], i: usize, threads: &LastEvents, begun: usize) ->
     if e.thread >= 64 {
         return false;
     }
-    match (e.kind, call_in_flight(history, threads.of(e.thread))) {
-        (Kind::PutBegun, None) => e.item as usize == begun + 1,
-        (Kind::TakeBegun, None) => e.item == 0,
-        (Kind::Accepted | Kind::Full, Some(call)) => {
-            call.kind == Kind::PutBegun && e.item == call.item
+    let last = threads.of(e.thread);
+    // By the event's kind first, and not by both at once: no more is then read of the call in flight than the event's kind asks for.
+    match e.kind {
+        Kind::PutBegun => {
+            call_in_flight(history, last).is_none() && e.item as usize == begun + 1
         }
-        (Kind::HandedOut, Some(call)) => call.kind == Kind::TakeBegun && e.item > 0,
-        (Kind::Empty, Some(call)) => call.kind == Kind::TakeBegun && e.item == 0,
-        _ => false,
+        Kind::TakeBegun => call_in_flight(history, last).is_none() && e.item == 0,
+        Kind::Accepted | Kind::Full => matches!(
+            call_in_flight(history, last),
+            Some(call) if call.kind == Kind::PutBegun && e.item == call.item
+        ),
+        Kind::HandedOut => matches!(
+            call_in_flight(history, last),
+            Some(call) if call.kind == Kind::TakeBegun && e.item > 0
+        ),
+        Kind::Empty => matches!(
+            call_in_flight(history, last),
+            Some(call) if call.kind == Kind::TakeBegun && e.item == 0
+        ),
     }
 }
 
