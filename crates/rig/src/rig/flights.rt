@@ -9,9 +9,13 @@ impl Rig {
         ensures is { result ≡ flights (state self.now) }
         ensures few { result ≤ 64 }
     {
-        self.threads
-            .iter()
-            .filter(|thread| thread.call.in_flight())
-            .count()
+        // A loop: the iterator's `filter` and `count` take half as long again where most threads have a call in flight (docs/measurements.md).
+        let mut count = 0;
+        for thread in &self.threads {
+            if thread.call.in_flight() {
+                count += 1;
+            }
+        }
+        count
     }
 }

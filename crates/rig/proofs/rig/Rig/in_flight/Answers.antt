@@ -1,4 +1,5 @@
-use Rattle.std.proofs.Common.{rules, ◌≡◌, count_by, length, ap, ◌∙◌}
+use Rattle.std.proofs.Common.{◌≡◌, count_by, length, ap, ◌∙◌, arith}
+use Rattle.std.proofs.lemmas.List.{take_all}
 use Rattle.history.specs.Positions.{count_below}
 use Rattle.steps.specs.Calls.{in_flight}
 use Rattle.rig.specs.Worlds.{State, state, resting, call_at, flights}
@@ -12,5 +13,7 @@ all_flights r e = counted (λ (t : Thread). in_flight t.call) r.threads resting 
 
 pub returns-clause-is : goal.returns-clause-is
 returns-clause-is c =
-    let counts : c.count.result ≡ count_by (λ (t : Thread). in_flight t.call) c.args.self.now.threads = search rules in
-    counts ∙ all_flights (state c.args.self.now) c.args.self.now.whole
+    let threads = c.args.self.now.threads in
+    c.loop-thread.invariant.0
+    ∙ ap (count_by (λ (t : Thread). in_flight t.call)) (take_all c.loop-thread.thread-index threads (omega arith))
+    ∙ all_flights (state c.args.self.now) c.args.self.now.whole
