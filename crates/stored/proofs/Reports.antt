@@ -1,10 +1,12 @@
 -- A report from its parts.
-use Rattle.std.proofs.Common.{◌≡◌, ℕ, List, length, Ok, Err, Result, subst, inl, inr, arith}
-use Rattle.history.specs.Calls.{Apart}
+use Rattle.std.proofs.Common.{◌≡◌, ℕ, min, List, length, Ok, Err, Result, subst, inl, inr, arith}
+use Rattle.history.specs.Calls.{Apart, puts_before}
 use Rattle.history.specs.Limits.{most, SegmentFits}
 use Rattle.history.specs.Questions.{AllYes, FirstNo}
 use Rattle.history.specs.declared.event.Event.{Event}
 use Rattle.history.specs.declared.refusal.Refusal.{Refusal}
+use Rattle.history.specs.Events.{is}
+use Rattle.history.proofs.Positions.{count_le}
 use Rattle.history.proofs.Questions.{not_both}
 use Rattle.judge.specs.Answers as judge
 use Rattle.judge.specs.declared.verdict.Verdict.{Verdict}
@@ -20,6 +22,19 @@ judged_at k n h h' m m' r e f g = subst (λ (l : List Event). judge.Answered k n
 
 pub given_at : (k : ℕ) (h h' : List Event) (m m' : ℕ) (r : Result Replay Refusal) → h ≡ h' → m ≡ m' → ReplayGiven k h m r → ReplayGiven k h' m' r
 given_at k h h' m m' r e f g = subst (λ (l : List Event). ReplayGiven k l m' r) e (subst (λ (i : ℕ). ReplayGiven k h i r) f g)
+
+-- what the judge answers with a row for each put begun, it answers with as many as are ever used
+enough : (k n : ℕ) (h : List Event) (r : Result Verdict Refusal) → judge.Answered k n h (min (puts_before h (length h)) most) r → judge.Answered k n h most r
+enough k n h (Ok v) ((slots, (segments, (short, (formed, (rows, end))))), judged) = ((slots, (segments, (short, (formed, (omega (arith, rows), end))))), judged)
+enough k n h (Err r) (inl p, names) = (inl p, names)
+enough k n h (Err r) (inr (slots, inl p), names) = (inr (slots, inl p), names)
+enough k n h (Err r) (inr (slots, inr (segments, inl p)), names) = (inr (slots, inr (segments, inl p)), names)
+enough k n h (Err r) (inr (slots, inr (segments, inr (short, inl p))), names) = (inr (slots, inr (segments, inr (short, inl p))), names)
+enough k n h (Err r) (inr (slots, inr (segments, inr (short, inr (formed, inl p)))), names) = absurd (p.0 (omega (arith, count_le (is 1 h) (length h), short)))
+enough k n h (Err r) (inr (slots, inr (segments, inr (short, inr (formed, inr (rows, none))))), names) = absurd none
+
+pub judged_enough : (k n : ℕ) (h h' : List Event) (m : ℕ) (r : Result Verdict Refusal) → h ≡ h' → m ≡ min (puts_before h' (length h')) most → judge.Answered k n h m r → judge.Answered k n h' most r
+judged_enough k n h h' m r e f g = enough k n h' r (judged_at k n h h' m _ r e f g)
 
 -- calls overlap: the questions before that one were answered yes
 pub overlap_found : (k m : ℕ) (h : List Event) → FirstNo (replay_questions k h m) 16 → SegmentFits k × (AllYes (history_questions h m) × (Apart h (length h) → ⊥))

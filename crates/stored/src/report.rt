@@ -1,10 +1,11 @@
 // What is reported of a stored history.
 ghost use Rattle.std.specs.Prelude.{◌≡◌, length};
+ghost use Rattle.history.specs.Calls.{puts_before};
 ghost use Rattle.stored.specs.Report.{ReplayGiven, Reported};
 
 use super::fault::Fault;
 use super::read::read;
-use history::event::Event;
+use history::event::{Event, Kind};
 use history::refusal::Refusal;
 use history::rows::MOST;
 use judge::judge::judge;
@@ -40,13 +41,28 @@ fn replayed(history: &[Event], k: u32, rows: &mut [u32]) -> Result<Replay, Refus
     }
 }
 
+// The number of puts begun: the judge needs a row for each, and no more are made.
+fn puts_in(history: &[Event]) -> usize
+    ensures { result ≡ puts_before history.now (length history.now) }
+{
+    let mut puts = 0;
+    for event in history {
+        if event.kind == Kind::PutBegun {
+            puts += 1;
+        }
+    }
+    puts
+}
+
 // The report of the stored history that the input writes.
 pub fn reported(heap: Global, input: &[u8]) -> Result<Report, Fault>
     ensures { Reported input.now result }
 {
     let stored = read(heap, input)?;
-    let mut rows = vec![in heap; Row::BLANK; MOST]?;
-    let verdict = judge(&stored.events, stored.k, stored.segments, &mut rows)?;
+    let verdict = {
+        let mut rows = vec![in heap; Row::BLANK; puts_in(&stored.events).min(MOST)]?;
+        judge(&stored.events, stored.k, stored.segments, &mut rows)?
+    };
     let mut places = vec![in heap; 0u32; MOST]?;
     let replay = replayed(&stored.events, stored.k, &mut places)?;
     Ok(Report {
