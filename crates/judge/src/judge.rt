@@ -54,8 +54,10 @@ pub fn judge(history: &[Event], k: u32, segments: u32, rows: &mut [Row]) -> Resu
         k: Bounded::new(k).ok_or(Refusal::SegmentSize)?,
         segments: Bounded::new(segments).ok_or(Refusal::Segments)?,
     };
-    let used = ask(history, rows.len())?;
-    clear(rows, Row::BLANK);
+    // A put is an event, so no more rows than events are worked on: only those are blanked before the work, and all of them after it.
+    let asked = ask(history, rows.len())?;
+    let used = asked.min(history.len());
+    clear(&mut rows[..used], Row::BLANK);
     let verdict = run(history, shape, &mut rows[..used]);
     clear(rows, Row::BLANK);
     Ok(verdict)
